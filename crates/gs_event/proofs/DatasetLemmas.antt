@@ -1,5 +1,5 @@
 -- How many triples a dataset has once a graph is another.
-use Rattle.std.proofs.Common.{◌≡◌, ℕ, ◌+◌, ◌-◌, ◌≤◌, Bool, true, false, cond, T, ◌&&◌, List, [], ◌∷◌, length, Option, Some, None, is_some, refl, sym, ap, ◌∙◌, arith}
+use Rattle.std.proofs.Common.{◌≡◌, ℕ, nat_eq, ◌+◌, ◌-◌, ◌≤◌, Bool, true, false, cond, T, ◌&&◌, List, [], ◌∷◌, length, Option, Some, None, is_some, refl, sym, ap, ◌∙◌, arith}
 use Rattle.std.specs.List.{sum_by}
 use Rattle.std.specs.declared.cmp.Ordering.{Ordering}
 use Rattle.std.specs.declared.cmp.Ordering.TheVariants.{Less, Equal, Greater}
@@ -9,14 +9,14 @@ use Rattle.std.specs.FinMap as fin
 use Rattle.std.specs.FinMap.Entries.{put, find, is_sorted, by_order, length-put}
 use Rattle.std.proofs.lemmas.List.{length-map, nil_from_length}
 use Rattle.std.proofs.lemmas.List.Sums.{sum_by-cons}
-use Rattle.gs_model.specs.Graphs.{Graph, size_of, triples_of}
+use Rattle.gs_model.specs.Graphs.{Graph, size_of, triples_of, empty_graph}
 use Rattle.gs_model.specs.Triples.{line_of}
 use Rattle.gs_term.specs.declared.names.Target.{Target}
 use Rattle.gs_term.specs.declared.names.Target.TheVariants.{Default, Named}
 use Rattle.gs_model.proofs.GraphLemmas.{empty_has_none}
 use Rattle.gs_term.specs.Names.{name_cmp}
 use Rattle.gs_term.proofs.NameLemmas.{name_total, name_exact}
-use Rattle.gs_event.specs.Datasets.{Dataset, empty_dataset, with_graph, without_graph, graph_at, is_there, lines_if, lines_at, triples_in, names_in}
+use Rattle.gs_event.specs.Datasets.{Dataset, empty_dataset, with_graph, without_graph, graph_at, is_there, lines_if, lines_at, triples_in, names_in, kept_in, some_of, records_at, unused_for}
 
 tail_sorted : (a b : Bool) → T (a && b) → T b
 tail_sorted true b h = h
@@ -131,3 +131,26 @@ some_name m n (Some g) is there =
 -- where there is a name, there is one at least
 pub names_in-some : (m : Dataset) (n : List ℕ) → is_there m (Named n) ≡ true → 1 ≤ names_in m
 names_in-some m n there = some_name m n (fin.get m.named n) refl there
+
+one_of : (b : Bool) → cond b 0 1 + cond b 1 0 ≡ 1
+one_of true = refl
+one_of false = refl
+
+-- the nodes and records of the graph that was there go, and those of the new graph come: its triples, and a record, if it is used
+pub kept_in-with_graph : (m : Dataset) (t : Target) (g : Graph) → kept_in (with_graph m t g) + length (lines_at m t) + records_at m t + unused_for t g ≡ kept_in m + size_of g + 1
+kept_in-with_graph m Default g = omega (arith, triples_in-with_graph m Default g, one_of (nat_eq (size_of g) 0))
+kept_in-with_graph m (Named n) g =
+    let named = names_in-with_graph m (Named n) g in
+    elim (is_there m (Named n)) as (λ b. names_in (with_graph m (Named n) g) ≡ cond b (names_in m) (names_in m + 1)
+        → kept_in (with_graph m (Named n) g) + length (lines_at m (Named n)) + cond b 1 0 + 0 ≡ kept_in m + size_of g + 1) [
+      | true ↦ λ is. omega (arith, is, triples_in-with_graph m (Named n) g)
+      | false ↦ λ is. omega (arith, is, triples_in-with_graph m (Named n) g)
+    ] named
+
+-- without a graph its nodes and records are gone
+pub kept_in-without_graph : (m : Dataset) (t : Target) → is_there m t ≡ true → kept_in (without_graph m t) + length (lines_at m t) + records_at m t ≡ kept_in m
+kept_in-without_graph m Default there =
+    let none : some_of empty_graph ≡ 0 = ap (λ (n : ℕ). cond {A = ℕ} (nat_eq n 0) 0 1) empty_has_none in
+    omega (arith, triples_in-without_graph m Default, none)
+kept_in-without_graph m (Named n) there =
+    omega (arith, triples_in-without_graph m (Named n), names_in-without_name m n there, names_in-some m n there, let there_one : records_at m (Named n) ≡ 1 = ap (λ b. cond {A = ℕ} b 1 0) there in there_one)

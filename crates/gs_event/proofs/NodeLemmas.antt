@@ -21,15 +21,15 @@ use Rattle.gs_event.specs.declared.answers.Answer.{Answer}
 use Rattle.gs_event.specs.declared.answers.Answer.TheVariants.{Opened, Staged, Status, Pinned, Lines, Cancelled, Reclaimed, Refused}
 use Rattle.gs_event.specs.declared.updates.Op.{Op}
 use Rattle.gs_event.specs.Updates.{updated, patched}
-use Rattle.gs_event.specs.Datasets.{Dataset, graph_at, is_there, lines_if, lines_at, with_graph, without_graph, triples_in}
+use Rattle.gs_event.specs.Datasets.{Dataset, graph_at, is_there, lines_if, lines_at, with_graph, without_graph, kept_in, records_at, unused_for}
 use Rattle.gs_event.specs.Names.{new_name}
 use Rattle.gs_event.specs.Operations.{Setting, is_within, united, stored, stored_status, after, status_of, is_success}
 use Rattle.gs_event.specs.Phases.{Idle, Writing, Patching, Reading, write_of}
 use Rattle.gs_event.specs.Views.{Totals, View, SeatView, FitsSeat, next_totals, next_phase, next_if}
-use Rattle.gs_event.specs.Waste.{Lifetime, Shown, staged_at, staged_in, nodes_in}
+use Rattle.gs_event.specs.Waste.{Lifetime, Shown, held_at, held_in, nodes_in}
 use Rattle.gs_event.specs.Steps.{Joins, WastesUpload, WastesCommit, WastesOperations, most_patched, WastesPatch, WastesDelete, WastesCancel, Frees, Wastes}
 use Rattle.gs_event.specs.NodesInUse.{most_for_upload, most_for_update, most_taken_at, most_taken_if, TakesFew, GivesBack}
-use Rattle.gs_event.proofs.DatasetLemmas.{triples_in-with_graph, triples_in-without_graph}
+use Rattle.gs_event.proofs.DatasetLemmas.{kept_in-with_graph, kept_in-without_graph}
 use Rattle.gs_event.proofs.SizeLemmas.{adds_up, graph_few, listed_few, united_few}
 use Rattle.gs_event.proofs.VerdictLemmas.{made_well}
 
@@ -59,34 +59,34 @@ stored_not w m t g s fails status =
 
 -- an upload with effect: its nodes become the graph's, or may join the waste
 uploaded : (v : Totals) (k : UploadKind) (r : ℕ) (g : Graph) (s : ℕ) (done : Bool) (old new : List Lifetime) → is_success s ≡ done → s ≡ status_of v.setting v.dataset (write_of k r g) → WastesUpload v k g done old new
-    → triples_in (after v.setting v.dataset (write_of k r g)) + 0 + length new ≤ triples_in v.dataset + size_of g + length old + cond done (most_for_upload k g) 0
+    → kept_in (after v.setting v.dataset (write_of k r g)) + 0 + length new ≤ kept_in v.dataset + (size_of g + 1) + length old + cond done (most_for_upload k g) 0
 uploaded v (Put t) r g s true old new well status w =
-    let now = ap triples_in (stored_well v.setting v.dataset t g s well status) in
-    omega (arith, now, triples_in-with_graph v.dataset t g, joined _ _ old new w)
+    let now = ap kept_in (stored_well v.setting v.dataset t g s well status) in
+    omega (arith, now, kept_in-with_graph v.dataset t g, joined _ _ old w.between w.unused, joined _ _ w.between new w.replaced)
 uploaded v (Post t) r g s true old new well status w =
     let both = united (graph_at v.dataset t) g in
-    let now = ap triples_in (stored_well v.setting v.dataset t both s well status) in
-    omega (arith, now, triples_in-with_graph v.dataset t both, united_few (graph_at v.dataset t) g, joined _ _ old w.between w.staged, joined _ _ w.between new w.replaced)
+    let now = ap kept_in (stored_well v.setting v.dataset t both s well status) in
+    omega (arith, now, kept_in-with_graph v.dataset t both, united_few (graph_at v.dataset t) g, joined _ _ old w.between w.unused, joined _ _ w.between new w.replaced)
 uploaded v New r g s true old new well status w =
     let t = Named (new_name v.setting.base v.dataset r) in
-    let now = ap triples_in (stored_well v.setting v.dataset t g s well status) in
-    omega (arith, now, triples_in-with_graph v.dataset t g, joined _ _ old w.between w.staged, joined _ _ w.between new w.replaced)
+    let now = ap kept_in (stored_well v.setting v.dataset t g s well status) in
+    omega (arith, now, kept_in-with_graph v.dataset t g, joined _ _ old w.between w.unused, joined _ _ w.between new w.replaced)
 uploaded v (Put t) r g s false old new fails status w =
-    omega (arith, ap triples_in (stored_not v.setting v.dataset t g s fails status), joined _ _ old new w)
+    omega (arith, ap kept_in (stored_not v.setting v.dataset t g s fails status), joined _ _ old new w)
 uploaded v (Post t) r g s false old new fails status w =
-    omega (arith, ap triples_in (stored_not v.setting v.dataset t (united (graph_at v.dataset t) g) s fails status), joined _ _ old new w)
+    omega (arith, ap kept_in (stored_not v.setting v.dataset t (united (graph_at v.dataset t) g) s fails status), joined _ _ old new w)
 uploaded v New r g s false old new fails status w =
-    omega (arith, ap triples_in (stored_not v.setting v.dataset (Named (new_name v.setting.base v.dataset r)) g s fails status), joined _ _ old new w)
+    omega (arith, ap kept_in (stored_not v.setting v.dataset (Named (new_name v.setting.base v.dataset r)) g s fails status), joined _ _ old new w)
 
 -- an update with effect, by the graph that was there
 patched_well : (v : Totals) (t : Target) (ops : List Op) (s : ℕ) (Has : Lifetime → Type 0) (old new : List Lifetime) (o : Option Graph) → graph_at v.dataset t ≡ o → is_success s ≡ true
-    → s ≡ cond (is_some o) (stored_status v.setting v.dataset t (patched o ops)) 404 → Joins Has (most_patched o ops) old new
-    → triples_in (cond (is_some o) (stored v.setting v.dataset t (patched o ops)) v.dataset) + 0 + length new ≤ triples_in v.dataset + 0 + length old + most_for_update o ops
+    → s ≡ cond (is_some o) (stored_status v.setting v.dataset t (patched o ops)) 404 → Joins Has (most_patched o ops + records_at v.dataset t + unused_for t (patched o ops)) old new
+    → kept_in (cond (is_some o) (stored v.setting v.dataset t (patched o ops)) v.dataset) + 0 + length new ≤ kept_in v.dataset + 1 + length old + most_for_update o ops
 patched_well v t ops s Has old new None is well status joins = absurd (let no : false ≡ true = sym (ap is_success status) ∙ well in cc)
 patched_well v t ops s Has old new (Some g) is well status joins =
-    let now = ap triples_in (stored_well v.setting v.dataset t (updated g ops) s well status) in
+    let now = ap kept_in (stored_well v.setting v.dataset t (updated g ops) s well status) in
     let size : length (lines_at v.dataset t) ≡ size_of g = ap (λ o. length (lines_if o)) is ∙ length-map (triples_of g) line_of in
-    omega (arith, now, size, triples_in-with_graph v.dataset t (updated g ops), adds_up g ops, joined Has _ old new joins)
+    omega (arith, now, size, kept_in-with_graph v.dataset t (updated g ops), adds_up g ops, joined Has _ old new joins)
 
 -- an update without effect
 patched_not : (v : Totals) (t : Target) (g : Graph) (s : ℕ) (there : Bool) → is_success s ≡ false → s ≡ cond there (stored_status v.setting v.dataset t g) 404 → cond there (stored v.setting v.dataset t g) v.dataset ≡ v.dataset
@@ -95,18 +95,18 @@ patched_not v t g s false fails status = refl
 
 updated_few : (v : Totals) (t : Target) (ops : List Op) (s : ℕ) (done : Bool) (old new : List Lifetime) → is_success s ≡ done → s ≡ cond (is_there v.dataset t) (stored_status v.setting v.dataset t (patched (graph_at v.dataset t) ops)) 404
     → WastesOperations v t ops done old new
-    → triples_in (cond (is_there v.dataset t) (stored v.setting v.dataset t (patched (graph_at v.dataset t) ops)) v.dataset) + 0 + length new ≤ triples_in v.dataset + 0 + length old + cond done (most_for_update (graph_at v.dataset t) ops) 0
+    → kept_in (cond (is_there v.dataset t) (stored v.setting v.dataset t (patched (graph_at v.dataset t) ops)) v.dataset) + 0 + length new ≤ kept_in v.dataset + 1 + length old + cond done (most_for_update (graph_at v.dataset t) ops) 0
 updated_few v t ops s true old new well status w = patched_well v t ops s _ old new (graph_at v.dataset t) refl well status w
 updated_few v t ops s false old new fails status w =
-    omega (arith, ap triples_in (patched_not v t (patched (graph_at v.dataset t) ops) s (is_there v.dataset t) fails status), ap length w)
+    omega (arith, ap kept_in (patched_not v t (patched (graph_at v.dataset t) ops) s (is_there v.dataset t) fails status), joined _ _ old new w)
 
 -- a DELETE, by whether there was a graph and whether it took effect
-deleted : (v : Totals) (t : Target) (s : ℕ) (there done : Bool) (old new : List Lifetime) → is_success s ≡ done → s ≡ cond there 204 404 → WastesDelete v t done old new
-    → triples_in (cond there (without_graph v.dataset t) v.dataset) + 0 + length new ≤ triples_in v.dataset + 0 + length old + 0
-deleted v t s true true old new well status w = omega (arith, triples_in-without_graph v.dataset t, joined _ _ old new w)
-deleted v t s true false old new fails status w = absurd (let no : false ≡ true = sym fails ∙ ap is_success status in cc)
-deleted v t s false true old new well status w = absurd (let no : false ≡ true = sym (ap is_success status) ∙ well in cc)
-deleted v t s false false old new fails status w = omega (arith, ap length w)
+deleted : (v : Totals) (t : Target) (s : ℕ) (there done : Bool) (old new : List Lifetime) → is_there v.dataset t ≡ there → is_success s ≡ done → s ≡ cond there 204 404 → WastesDelete v t done old new
+    → kept_in (cond there (without_graph v.dataset t) v.dataset) + 0 + length new ≤ kept_in v.dataset + 0 + length old + 0
+deleted v t s true true old new is well status w = omega (arith, kept_in-without_graph v.dataset t is, joined _ _ old new w)
+deleted v t s true false old new is fails status w = absurd (let no : false ≡ true = sym fails ∙ ap is_success status in cc)
+deleted v t s false true old new is well status w = absurd (let no : false ≡ true = sym (ap is_success status) ∙ well in cc)
+deleted v t s false false old new is fails status w = omega (arith, ap length w)
 
 -- what an action makes of the waste, by the phase of its seat
 abbrev Wasted : Totals → Option SeatView → Action → Answer → List Lifetime → List Lifetime → Type 0
@@ -127,21 +127,21 @@ unchanged : (n : ℕ) (old new : List Lifetime) → new ≡ old → n + length n
 unchanged n old new w = omega (arith, ap length w)
 
 -- a phase in which nothing is staged
-pin_stages : (b : Bool) (left : List (List ℕ)) → staged_at (cond b (Reading left) Idle) ≡ 0
+pin_stages : (b : Bool) (left : List (List ℕ)) → held_at (cond b (Reading left) Idle) ≡ 0
 pin_stages true left = refl
 pin_stages false left = refl
 
-piece_stages : (b : Bool) (left : List (List ℕ)) → staged_at (cond b Idle (Reading left)) ≡ 0
+piece_stages : (b : Bool) (left : List (List ℕ)) → held_at (cond b Idle (Reading left)) ≡ 0
 piece_stages true left = refl
 piece_stages false left = refl
 
 -- the current graphs, the seat's upload and the waste have no more nodes together
 taken_at : (v : Totals) (p : SeatView) (action : Action) (a : Answer) (old new : List Lifetime) → FitsSeat v p action a → Wasted v (Some p) action a old new
-    → triples_in (next_totals v p action a).dataset + staged_at (next_phase v p action a) + length new ≤ triples_in v.dataset + staged_at p + length old + most_taken_at v.dataset p action a
+    → kept_in (next_totals v p action a).dataset + held_at (next_phase v p action a) + length new ≤ kept_in v.dataset + held_at p + length old + most_taken_at v.dataset p action a
 taken_at v Idle (Open k) (Opened r) old new fits w = omega (arith, empty_has_none, ap length w)
-taken_at v Idle (OpenPatch t) (Opened r) old new fits w = unchanged (triples_in v.dataset + 0) old new w
-taken_at v Idle (Delete t) (Status s name) old new fits w = deleted v t s (is_there v.dataset t) (is_success s) old new refl fits.0 w
-taken_at v Idle (Head t) (Status s name) old new fits w = unchanged (triples_in v.dataset + 0) old new w
+taken_at v Idle (OpenPatch t) (Opened r) old new fits w = omega (arith, ap length w)
+taken_at v Idle (Delete t) (Status s name) old new fits w = deleted v t s (is_there v.dataset t) (is_success s) old new refl refl fits.0 w
+taken_at v Idle (Head t) (Status s name) old new fits w = unchanged (kept_in v.dataset + 0) old new w
 taken_at v Idle (Pin t) (Pinned s) old new fits w = omega (arith, pin_stages (nat_eq s 200) (lines_at v.dataset t), ap length w)
 taken_at v Idle Commit (Status s name) old new fits w = absurd fits
 taken_at v Idle (CommitPatch ops) (Status s name) old new fits w = absurd fits
@@ -155,13 +155,13 @@ taken_at v (Writing k r g) (CommitPatch ops) (Status s name) old new fits w = ab
 taken_at v (Patching t r) (CommitPatch ops) (Status s name) old new fits w = updated_few v t ops.items s (is_success s) old new refl fits.0 w
 taken_at v (Patching t r) (Delete u) (Status s name) old new fits w = absurd fits
 taken_at v (Patching t r) Commit (Status s name) old new fits w = absurd fits
-taken_at v (Patching t r) Cancel Cancelled old new fits w = unchanged (triples_in v.dataset + 0) old new w
+taken_at v (Patching t r) Cancel Cancelled old new fits w = omega (arith, joined _ _ old new w)
 taken_at v (Reading left) (Piece n) (Lines b end) old new fits w = omega (arith, piece_stages end (drop n left), ap length w)
 taken_at v (Reading left) (Delete t) (Status s name) old new fits w = absurd fits
 taken_at v (Reading left) Commit (Status s name) old new fits w = absurd fits
 taken_at v (Reading left) (CommitPatch ops) (Status s name) old new fits w = absurd fits
-taken_at v (Reading left) Cancel Cancelled old new fits w = unchanged (triples_in v.dataset + 0) old new w
-taken_at v p action a old new fits w = unchanged (triples_in v.dataset + staged_at p) old new w
+taken_at v (Reading left) Cancel Cancelled old new fits w = unchanged (kept_in v.dataset + 0) old new w
+taken_at v p action a old new fits w = unchanged (kept_in v.dataset + held_at p) old new w
 
 refused_waste : (v : Totals) (action : Action) (r : Refusal) (old new : List Lifetime) → Wasted v None action (Refused r) old new → new ≡ old
 refused_waste v Commit r old new w = w
@@ -175,21 +175,21 @@ taken_if : (old : Shown) (s : ℕ) (action : Action) (a : Answer) (new : Shown) 
     → Wasted old.view.totals o action a old.waste new.waste → new.view ≡ next_if old.view s o action a → nodes_in new ≤ nodes_in old + most_taken_if old.view.totals.dataset o action a
 taken_if old s action a new None is fits w view =
     let same = refused_waste old.view.totals action BadSeat old.waste new.waste (subst (λ r. Wasted old.view.totals None action r old.waste new.waste) fits w) in
-    omega (arith, ap length same, ap (λ (v : View). triples_in v.totals.dataset) view, ap (λ (v : View). staged_in v.seats) view)
+    omega (arith, ap length same, ap (λ (v : View). kept_in v.totals.dataset) view, ap (λ (v : View). held_in v.seats) view)
 taken_if old s action a new (Some p) is fits w view =
     let next = next_phase old.view.totals p action a in
-    let seats : sum_by (λ (q : SeatView). staged_at q) (slice_set old.view.seats s next) + staged_at (get_or old.view.seats s p) ≡ staged_in old.view.seats + staged_at next =
-    sum_by-set (λ (q : SeatView). staged_at q) old.view.seats s next p (slice_get_within old.view.seats s p is) in
-    let here : staged_at (get_or old.view.seats s p) ≡ staged_at p = ap (λ (q : SeatView). staged_at q) (get_or_from_slice_get old.view.seats s p p is) in
-    let graphs : triples_in new.view.totals.dataset ≡ triples_in (next_totals old.view.totals p action a).dataset = ap (λ (v : View). triples_in v.totals.dataset) view in
-    let uploads : staged_in new.view.seats ≡ staged_in (slice_set old.view.seats s next) = ap (λ (v : View). staged_in v.seats) view in
+    let seats : sum_by (λ (q : SeatView). held_at q) (slice_set old.view.seats s next) + held_at (get_or old.view.seats s p) ≡ held_in old.view.seats + held_at next =
+    sum_by-set (λ (q : SeatView). held_at q) old.view.seats s next p (slice_get_within old.view.seats s p is) in
+    let here : held_at (get_or old.view.seats s p) ≡ held_at p = ap (λ (q : SeatView). held_at q) (get_or_from_slice_get old.view.seats s p p is) in
+    let graphs : kept_in new.view.totals.dataset ≡ kept_in (next_totals old.view.totals p action a).dataset = ap (λ (v : View). kept_in v.totals.dataset) view in
+    let uploads : held_in new.view.seats ≡ held_in (slice_set old.view.seats s next) = ap (λ (v : View). held_in v.seats) view in
     omega (arith, seats, here, graphs, uploads, taken_at old.view.totals p action a old.waste new.waste fits w)
 
 -- what is freed is no more in use
 pub gives_back : (old : Shown) (n freed : ℕ) (left : Bool) (new : Shown) → GivesBack old n freed left new
 gives_back old n freed left new step =
     let w : Frees old.pinned n freed left old.waste new.waste = step.waste in
-    omega (arith, w.same (λ l. 1), ones new.waste, ones old.waste, ones w.gone, w.many, ap (λ (v : View). triples_in v.totals.dataset) step.view, ap (λ (v : View). staged_in v.seats) step.view)
+    omega (arith, w.same (λ l. 1), ones new.waste, ones old.waste, ones w.gone, w.many, ap (λ (v : View). kept_in v.totals.dataset) step.view, ap (λ (v : View). held_in v.seats) step.view)
 
 -- each event
 pub takes_few : (old : Shown) (e : Event) (a : Answer) (new : Shown) → TakesFew old e a new

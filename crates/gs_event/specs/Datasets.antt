@@ -1,5 +1,5 @@
 -- Datasets (RDF 1.1 Concepts, section 4).
-use Rattle.std.specs.Prelude.{ℕ, ◌+◌, Bool, List, [], length, Option, Some, None, is_some}
+use Rattle.std.specs.Prelude.{ℕ, ◌+◌, Bool, List, [], length, nat_eq, if◌then◌else◌, Option, Some, None, is_some}
 use Rattle.std.specs.List.{sum_by}
 use Rattle.std.specs.FinMap as map
 use Rattle.gs_model.specs.Graphs.{Graph, empty_graph, lines_of, size_of}
@@ -55,3 +55,25 @@ triples_in m = size_of m.unnamed + sum_by (λ e. size_of e.1) (map.entries m.nam
 -- how many graphs have names
 abbrev pub names_in : Dataset → ℕ
 names_in m = map.len m.named
+
+-- 1 for a graph that has a triple
+abbrev pub some_of : Graph → ℕ
+some_of g = if nat_eq (size_of g) 0 then 0 else 1
+
+-- how many records a store keeps of these graphs: one for each name, and one for a default graph that has a triple
+abbrev pub records_in : Dataset → ℕ
+records_in m = names_in m + some_of m.unnamed
+
+-- how many nodes and records it keeps of them: a node for each triple, and the records
+abbrev pub kept_in : Dataset → ℕ
+kept_in m = triples_in m + records_in m
+
+-- how many records it keeps of this target's graph
+abbrev pub records_at : Dataset → Target → ℕ
+records_at m Default = some_of m.unnamed
+records_at m (Named name) = if is_there m (Named name) then 1 else 0
+
+-- how many records a write opened and does not use, where g is the target's graph after it
+abbrev pub unused_for : Target → Graph → ℕ
+unused_for Default g = if nat_eq (size_of g) 0 then 1 else 0
+unused_for (Named name) g = 0

@@ -1,21 +1,21 @@
--- How many triples an update adds and takes out, and how many nodes a step takes into use, at most.
+-- How many triples an update adds and takes out, and how many nodes and records a step takes into use, at most.
 use Rattle.std.specs.Prelude.{◌≡◌, ◌≤◌, ℕ, Bool, ◌+◌, ◌*◌, if◌then◌else◌, List, length, Option, Some, None}
 use Rattle.std.specs.List.{slice_get}
 use Rattle.gs_model.specs.Graphs.{Graph, size_of}
 use Rattle.gs_event.specs.declared.events.UploadKind.{UploadKind}
 use Rattle.gs_event.specs.declared.events.UploadKind.TheVariants.{Put, Post, New}
 use Rattle.gs_event.specs.declared.events.Action.{Action}
-use Rattle.gs_event.specs.declared.events.Action.TheVariants.{Stage, Commit, CommitPatch}
+use Rattle.gs_event.specs.declared.events.Action.TheVariants.{Open, OpenPatch, Stage, Commit, CommitPatch}
 use Rattle.gs_event.specs.declared.events.Event.{Event}
 use Rattle.gs_event.specs.declared.events.Event.TheVariants.{Seat as At, Reclaim}
 use Rattle.gs_event.specs.declared.answers.Answer.{Answer}
-use Rattle.gs_event.specs.declared.answers.Answer.TheVariants.{Staged, Status, Reclaimed}
+use Rattle.gs_event.specs.declared.answers.Answer.TheVariants.{Opened, Staged, Status, Reclaimed}
 use Rattle.gs_event.specs.declared.updates.Op.{Op}
 use Rattle.gs_event.specs.declared.updates.Op.TheVariants.{Insert, DeleteData, DeleteWhere}
 use Rattle.gs_event.specs.Updates.{inserted_count, removed, updated, inserted_by, removed_by}
 use Rattle.gs_event.specs.Datasets.{Dataset, graph_at}
 use Rattle.gs_event.specs.Operations.{is_success}
-use Rattle.gs_event.specs.Phases.{Writing, Patching}
+use Rattle.gs_event.specs.Phases.{Idle, Writing, Patching}
 use Rattle.gs_event.specs.Views.{SeatView}
 use Rattle.gs_event.specs.Waste.{Shown, nodes_in}
 use Rattle.gs_event.specs.Steps.{Steps}
@@ -42,9 +42,11 @@ abbrev pub most_for_update : Option Graph → List Op → ℕ
 most_for_update None ops = 0
 most_for_update (Some g) ops = 260 * (inserted_by g ops + removed_by g ops)
 
--- The most nodes that an action which was answered so takes into use: one for each triple that is staged,
--- those of a commit where it took effect, and else none.
+-- The most nodes and records that an action which was answered so takes into use: a record that is opened, a node for each
+-- triple that is staged, the nodes of a commit where it took effect, and else none.
 abbrev pub most_taken_at : Dataset → SeatView → Action → Answer → ℕ
+most_taken_at m Idle (Open k) (Opened r) = 1
+most_taken_at m Idle (OpenPatch t) (Opened r) = 1
 most_taken_at m (Writing k r g) (Stage ts) Staged = length ts.items
 most_taken_at m (Writing k r g) Commit (Status s name) = if is_success s then most_for_upload k g else 0
 most_taken_at m (Patching t r) (CommitPatch ops) (Status s name) =
@@ -56,7 +58,7 @@ abbrev pub most_taken_if : Dataset → Option SeatView → Action → Answer →
 most_taken_if m None action a = 0
 most_taken_if m (Some p) action a = most_taken_at m p action a
 
--- the most nodes that an event which was answered so takes into use
+-- the most nodes and records that an event which was answered so takes into use
 abbrev pub most_taken : Shown → Event → Answer → ℕ
 most_taken old (Reclaim n) a = 0
 most_taken old (At s action) a = most_taken_if old.view.totals.dataset (slice_get old.view.seats s) action a

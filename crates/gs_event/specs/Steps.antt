@@ -12,9 +12,9 @@ use Rattle.gs_event.specs.declared.events.Event.TheVariants.{Seat as At, Reclaim
 use Rattle.gs_event.specs.declared.answers.Answer.{Answer}
 use Rattle.gs_event.specs.declared.answers.Answer.TheVariants.{Status, Pinned, Lines, Cancelled, Reclaimed}
 use Rattle.gs_event.specs.declared.updates.Op.{Op}
-use Rattle.gs_event.specs.Updates.{inserted_by, removed_by}
-use Rattle.gs_event.specs.Datasets.{graph_at, size_at}
-use Rattle.gs_event.specs.Operations.{is_success}
+use Rattle.gs_event.specs.Updates.{inserted_by, removed_by, patched}
+use Rattle.gs_event.specs.Datasets.{graph_at, size_at, records_at, unused_for}
+use Rattle.gs_event.specs.Operations.{is_success, united}
 use Rattle.gs_event.specs.Phases.{Writing, Patching}
 use Rattle.gs_event.specs.Views.{Totals, SeatView, Fits, next_view}
 use Rattle.gs_event.specs.Waste.{Lifetime, Shown, is_needed, unneeded}
@@ -32,18 +32,18 @@ next_pinned old (Reclaim n) a = old.pinned
 next_pinned old (At s action) a =
     slice_set old.pinned s (pin_after old.view.totals.commit (slice_index_or old.pinned s None) action a)
 
--- at most so many nodes join the waste, each with such a lifetime, and none is taken out; its order means nothing
+-- at most so many nodes and records join the waste, each with such a lifetime, and none is taken out; its order means nothing
 pub record Joins (Has : Lifetime → Type 0) (most : ℕ) (old new : List Lifetime) : Type 0 where
   pub more : List Lifetime
   pub few : length more ≤ most
   pub same : (f : Lifetime → ℕ) → sum_by f new ≡ sum_by f old + sum_by f more
   pub ended : All Has more
 
--- no version reached the node
+-- no version reached it
 abbrev pub IsUnreached : Lifetime → Type 0
 IsUnreached l = l.death ≡ 0
 
--- a version before had the node, and the commit of this number took it out
+-- a version before had it, and the commit of this number took it out
 abbrev pub EndsAt : ℕ → Lifetime → Type 0
 EndsAt commit l = (l.birth < commit) × (l.death ≡ commit)
 
@@ -57,20 +57,22 @@ most_for_new = 259
 abbrev pub most_for_gone : ℕ
 most_for_gone = 261
 
--- an upload of so many triples was copied into a graph: of its own nodes so many at most join, and of those that the copies
--- replaced, where the last commit number was this
-pub record JoinsCopied (last size : ℕ) (old new : List Lifetime) : Type 0 where
+-- at most so many join that no version reached, and at most so many that the commit after this number took out
+pub record JoinsBoth (last unreached ended : ℕ) (old new : List Lifetime) : Type 0 where
   pub between : List Lifetime
-  pub staged : Joins IsUnreached size old between
-  pub replaced : Joins (EndsAt (last + 1)) (most_for_new * size) between new
+  pub unused : Joins IsUnreached unreached old between
+  pub replaced : Joins (EndsAt (last + 1)) ended between new
 
--- What a commit of an upload of g makes of the waste, by its kind and whether it took effect. The nodes of a PUT become
--- the graph's, so the nodes that the graph had join; those of an upload without effect may join themselves.
+-- What a commit of an upload of g makes of the waste, by its kind and whether it took effect. The nodes and the record of a
+-- PUT become the graph's, so those that the graph had join; of an upload without effect they may join themselves.
 abbrev pub WastesUpload : Totals → UploadKind → Graph → Bool → List Lifetime → List Lifetime → Type 0
-WastesUpload v (Put t) g true old new = Joins (EndsAt (v.commit + 1)) (size_at v.dataset t) old new
-WastesUpload v (Post t) g true old new = JoinsCopied v.commit (size_of g) old new
-WastesUpload v New g true old new = JoinsCopied v.commit (size_of g) old new
-WastesUpload v k g false old new = Joins IsUnreached (size_of g) old new
+WastesUpload v (Put t) g true old new =
+    JoinsBoth v.commit (unused_for t g) (size_at v.dataset t + records_at v.dataset t) old new
+WastesUpload v (Post t) g true old new =
+    JoinsBoth v.commit (size_of g + unused_for t (united (graph_at v.dataset t) g))
+    (most_for_new * size_of g + records_at v.dataset t) old new
+WastesUpload v New g true old new = JoinsBoth v.commit (size_of g) (most_for_new * size_of g) old new
+WastesUpload v k g false old new = Joins IsUnreached (size_of g + 1) old new
 
 -- what a Commit makes of the waste, by the phase of its seat
 abbrev pub WastesCommit : Totals → Option SeatView → Bool → List Lifetime → List Lifetime → Type 0
@@ -82,29 +84,32 @@ abbrev pub most_patched : Option Graph → List Op → ℕ
 most_patched None ops = 0
 most_patched (Some g) ops = most_for_new * inserted_by g ops + most_for_gone * removed_by g ops
 
--- what operations on the graph of t make of the waste: where they took effect, nodes that they took out join it, and nodes
--- that only lived between them; and else none
+-- What operations on the graph of t make of the waste. Where they took effect, nodes that they took out join it, nodes that
+-- only lived between them, and the record that the graph had; and else the patch's own.
 abbrev pub WastesOperations : Totals → Target → List Op → Bool → List Lifetime → List Lifetime → Type 0
 WastesOperations v t ops true old new =
-    Joins (λ l. IsUnreached l ⊎ EndsAt (v.commit + 1) l) (most_patched (graph_at v.dataset t) ops) old new
-WastesOperations v t ops false old new = new ≡ old
+    Joins (λ l. IsUnreached l ⊎ EndsAt (v.commit + 1) l)
+    (most_patched (graph_at v.dataset t) ops + records_at v.dataset t + unused_for t (patched (graph_at v.dataset t) ops)) old new
+WastesOperations v t ops false old new = Joins IsUnreached 1 old new
 
 -- what a CommitPatch makes of the waste, by the phase of its seat
 abbrev pub WastesPatch : Totals → Option SeatView → List Op → Bool → List Lifetime → List Lifetime → Type 0
 WastesPatch v (Some (Patching t r)) ops done old new = WastesOperations v t ops done old new
 WastesPatch v p ops done old new = new ≡ old
 
--- what a Delete of t makes of the waste: the nodes that its graph had join it, where it had one, and else none
+-- what a Delete of t makes of the waste: the nodes and the record of its graph join it, where it had one, and else none
 abbrev pub WastesDelete : Totals → Target → Bool → List Lifetime → List Lifetime → Type 0
-WastesDelete v t true old new = Joins (EndsAt (v.commit + 1)) (size_at v.dataset t) old new
+WastesDelete v t true old new = Joins (EndsAt (v.commit + 1)) (size_at v.dataset t + records_at v.dataset t) old new
 WastesDelete v t false old new = new ≡ old
 
--- what a Cancel makes of the waste, by the phase of its seat: the nodes of an upload join it, and none else
+-- what a Cancel makes of the waste, by the phase of its seat: the nodes of an upload join it, and the record of an upload or
+-- a patch
 abbrev pub WastesCancel : Option SeatView → List Lifetime → List Lifetime → Type 0
-WastesCancel (Some (Writing k r g)) old new = Joins IsUnreached (size_of g) old new
+WastesCancel (Some (Writing k r g)) old new = Joins IsUnreached (size_of g + 1) old new
+WastesCancel (Some (Patching t r)) old new = Joins IsUnreached 1 old new
 WastesCancel p old new = new ≡ old
 
--- as many nodes as may be are taken out of the waste, none that a pinned version needs, and nothing else;
+-- as many nodes and records as may be are taken out of the waste, none that a pinned version needs, and nothing else;
 -- its order means nothing
 pub record Frees (pins : List (Option ℕ)) (n freed : ℕ) (left : Bool) (old new : List Lifetime) : Type 0 where
   pub exact : freed ≡ min n (unneeded pins old)

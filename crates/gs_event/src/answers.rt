@@ -17,8 +17,8 @@ pub enum Answer {
     Lines(Vec<u8>, bool),
     /// The seat's upload, patch or read is given up.
     Cancelled,
-    /// How many nodes were freed, and whether any are left that no current graph and no open
-    /// upload holds.
+    /// How many nodes and records were freed, and whether any are left that no current graph and no
+    /// open upload or patch holds.
     Reclaimed(u64, bool),
     /// Nothing was done.
     Refused(Refusal),

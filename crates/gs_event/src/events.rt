@@ -44,6 +44,6 @@ pub enum Action {
 pub enum Event {
     /// A seat's action. Seats are numbered from 0.
     Seat(u16, Action),
-    /// Frees at most so many nodes that no version needs.
+    /// Frees at most so many nodes and records that no version needs.
     Reclaim(u64),
 }

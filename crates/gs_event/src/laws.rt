@@ -55,10 +55,10 @@ pub fn updates_add_up()
     ensures one_way { (g : Graph) (op : AnOp) → GoesOneWay g op }
 {}
 
-/// How many nodes a step takes into use: a PUT that took effect none, a POST and a new graph at most
-/// 260 for each triple of the upload, a PATCH at most 260 for each triple that comes or goes, a stage
-/// at most one for each of its triples, and any other event none. What a Reclaim frees is no more in
-/// use.
+/// How many nodes and records a step takes into use: an Open at most one, a stage at most one for each of
+/// its triples, a PUT that took effect none, a POST and a new graph at most 260 for each triple of the
+/// upload, a PATCH at most 260 for each triple that comes or goes, and any other event none. What a
+/// Reclaim frees is no more in use.
 pub fn steps_take_few()
     ensures few { (old : Shown) (e : AnEvent) (a : AnAnswer) (new : Shown) → TakesFew old e a new }
     ensures back { (old : Shown) (n freed : ℕ) (left : Bool) (new : Shown) → GivesBack old n freed left new }

@@ -1,15 +1,16 @@
 -- What the calls do to the records.
-use Rattle.std.specs.Prelude.{◌≡◌, ◌≢◌, ℕ, ◌+◌, ◌<◌, Bool, true, false, ◌&&◌, nat_eq, is_none, if◌then◌else◌, List, [], ◌∷◌, ◌++◌, MatchOption, Option, None}
-use Rattle.std.specs.List.{sum_by}
+use Rattle.std.specs.Prelude.{◌≡◌, ◌≢◌, ℕ, ◌+◌, ◌<◌, ◌≤◌, length, Bool, true, false, ◌&&◌, nat_eq, is_none, if◌then◌else◌, List, [], ◌∷◌, ◌++◌, MatchOption, Option, None}
+use Rattle.std.specs.List.{All, sum_by}
 use Rattle.gs_term.specs.declared.names.Target.{Target}
 use Rattle.gs_term.specs.declared.names.Target.TheVariants.{Default, Named}
 use Rattle.gs_event.specs.Waste.{Lifetime}
+use Rattle.gs_event.specs.Steps.{EndsAt}
 use Rattle.gs_catalogue.specs.declared.versions.GraphVersion.{GraphVersion}
-use Rattle.gs_catalogue.specs.Catalogues.{with_version}
+use Rattle.gs_catalogue.specs.Catalogues.{version_at, with_version}
 use Rattle.gs_index.specs.declared.entries.Entry.{Entry}
 use Rattle.gs_records.specs.Records.{Record, free, opened, unused, kept, Recorded, record_at, is_of, is_current, ended, Turns, Ends}
 use Rattle.gs_records.specs.Graphs.{graphs_at, current, without_version}
-use Rattle.gs_records.specs.Waste.{lifetimes, waste_in}
+use Rattle.gs_records.specs.Waste.{lifetimes, waste_in, open_count, used_count}
 use Rattle.gs_records.specs.Kept.{HasNoCurrent}
 
 -- the waste is what it was, and these lifetimes; its order means nothing
@@ -28,6 +29,31 @@ abbrev pub endings : Target → ℕ → List Record → List Lifetime
 endings t death [] = []
 endings t death (r ∷ rs) = ending t death r ++ endings t death rs
 
+-- whether this is the version of an empty default graph, of which no record is kept
+abbrev pub is_nothing : Target → GraphVersion → Bool
+is_nothing Default v = is_none v.root && nat_eq v.triples 0
+is_nothing (Named name) v = false
+
+-- how many records there are of a graph's version: none where the graph is missing, or is an empty default graph
+abbrev pub records_for : Target → Option GraphVersion → ℕ
+records_for t None = 0
+records_for t (Some v) = if is_nothing t v then 0 else 1
+
+-- what ends at this commit is the current record of the graph, where there is one, which began before
+pub record EndsCurrent (rs : List Record) (t : Target) (commit : ℕ) : Type 0 where
+  pub few : length (endings t commit rs) ≤ records_for t (version_at (current rs) t)
+  pub ended : All (EndsAt commit) (endings t commit rs)
+
+-- as many numbers are in use, and as many records are open
+pub record KeepsCounts (old new : List Record) : Type 0 where
+  pub used : used_count new ≡ used_count old
+  pub opens : open_count new ≡ open_count old
+
+-- as many numbers are in use, and one record less is open
+pub record UsesOne (old new : List Record) : Type 0 where
+  pub used : used_count new ≡ used_count old
+  pub opens : open_count new + 1 ≡ open_count old
+
 -- the versions that the dataset had, and has
 pub record KeepsGraphs (old new : List Record) : Type 0 where
   pub versions : (v : ℕ) → graphs_at v new ≡ graphs_at v old
@@ -39,7 +65,9 @@ pub record Opens (old new : Recorded) (n : ℕ) : Type 0 where
   pub was : record_at old.records n ≡ free
   pub turns : Turns old.records new.records n opened
   pub graphs : KeepsGraphs old.records new.records
-  pub waste : Gains (waste_in old.records) (waste_in new.records) []
+  pub waste : waste_in new.records ≡ waste_in old.records
+  pub used : used_count new.records ≡ used_count old.records + 1
+  pub opens : open_count new.records ≡ open_count old.records + 1
   pub listed : new.listed ≡ old.listed
   pub latest : new.latest ≡ old.latest
   pub limit : new.limit ≡ old.limit
@@ -49,6 +77,7 @@ pub record GivesUp (old new : Recorded) (n : ℕ) : Type 0 where
   pub turns : Turns old.records new.records n unused
   pub graphs : KeepsGraphs old.records new.records
   pub waste : Gains (waste_in old.records) (waste_in new.records) (lifetimes unused)
+  pub counts : UsesOne old.records new.records
   pub listed : new.listed ≡ old.listed
   pub latest : new.latest ≡ old.latest
   pub limit : new.limit ≡ old.limit
@@ -60,6 +89,8 @@ pub record RemovesVersion (old new : Recorded) (t : Target) (commit : ℕ) : Typ
   pub now : current new.records ≡ without_version (current old.records) t
   pub none : HasNoCurrent new.records t
   pub waste : Gains (waste_in old.records) (waste_in new.records) (endings t commit old.records)
+  pub last : EndsCurrent old.records t commit
+  pub counts : KeepsCounts old.records new.records
   pub listed : new.listed ≡ old.listed
   pub latest : new.latest ≡ commit
   pub limit : new.limit ≡ old.limit
@@ -67,11 +98,6 @@ pub record RemovesVersion (old new : Recorded) (t : Target) (commit : ℕ) : Typ
 -- a graph's record, made by this commit
 abbrev pub made_record : Target → GraphVersion → ℕ → Record
 made_record t v commit = kept (record { target = t; version = v; birth = commit; death = None })
-
--- whether this is the version of an empty default graph, of which no record is kept
-abbrev pub is_nothing : Target → GraphVersion → Bool
-is_nothing Default v = is_none v.root && nat_eq v.triples 0
-is_nothing (Named name) v = false
 
 -- what a number stands for once its version is committed
 abbrev pub placed : Target → GraphVersion → ℕ → Record
@@ -83,6 +109,7 @@ pub record Places (old new : Recorded) (n : ℕ) (t : Target) (v : GraphVersion)
   pub versions : (w : ℕ) → w < old.latest → graphs_at w new.records ≡ graphs_at w old.records
   pub now : current new.records ≡ with_version (current old.records) t v
   pub waste : Gains (waste_in old.records) (waste_in new.records) []
+  pub counts : UsesOne old.records new.records
   pub latest : new.latest ≡ old.latest
   pub limit : new.limit ≡ old.limit
 
@@ -94,6 +121,8 @@ pub record MakesCurrent (old new : Recorded) (n : ℕ) (t : Target) (v : GraphVe
   pub versions : (w : ℕ) → w < commit → graphs_at w new.records ≡ graphs_at w old.records
   pub now : current new.records ≡ with_version (current old.records) t v
   pub waste : Gains (waste_in old.records) (waste_in new.records) (endings t commit old.records ++ lifetimes (placed t v commit))
+  pub last : EndsCurrent old.records t commit
+  pub counts : UsesOne old.records new.records
   pub latest : new.latest ≡ commit
   pub limit : new.limit ≡ old.limit
 

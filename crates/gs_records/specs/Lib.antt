@@ -5,6 +5,7 @@ pub mod Waste
 pub mod Kept
 pub mod Stored
 pub mod Calls
+pub mod Uses
 pub mod Reclaims
 pub mod Sweeps
 pub mod Versions

@@ -30,3 +30,14 @@ is_opened (kept e) = false
 -- how many are open
 abbrev pub open_count : List Record → ℕ
 open_count rs = count_by is_opened rs
+
+-- whether a number is in use
+abbrev pub is_in_use : Record → Bool
+is_in_use free = false
+is_in_use opened = true
+is_in_use unused = true
+is_in_use (kept e) = true
+
+-- how many are in use
+abbrev pub used_count : List Record → ℕ
+used_count rs = count_by is_in_use rs

@@ -1,11 +1,13 @@
 //! Records in the order of their graphs, as a version of the dataset has them.
-ghost use Rattle.std.specs.Prelude.{◌≡◌, ◌&&◌, ◌<◌, true, IfOk, IfErr, IfSome};
+ghost use Rattle.std.specs.Prelude.{◌≡◌, ◌+◌, ◌&&◌, ◌<◌, ◌≤◌, true, IfOk, IfErr, IfSome};
 ghost use Rattle.std.specs.List.{filter};
+ghost use Rattle.gs_model.specs.Limits.{last_node};
 ghost use Rattle.gs_index.specs.Indexes.{is_listed};
 ghost use Rattle.gs_records.specs.Records.{kept, record_at, is_kept, outlives as outlives_death, has_at as has_entry_at};
 ghost use Rattle.gs_catalogue.specs.Catalogues.{name_count, triple_count};
 ghost use Rattle.gs_records.specs.Graphs.{current};
-ghost use Rattle.gs_records.specs.Waste.{is_opened};
+ghost use Rattle.gs_records.specs.Waste.{is_opened, used_count};
+ghost use Rattle.gs_records.specs.Uses.{AreUsed};
 ghost use Rattle.gs_records.specs.Kept.{AreSingle, AreDated};
 ghost use Rattle.gs_records.specs.Versions.{AreVersions};
 ghost use Rattle.gs_records.specs.Order.{has_number, AreListed, search_goes_on};
@@ -78,6 +80,18 @@ impl Records {
         ensures { result ≡ triple_count (current self.now.records) }
     {
         self.triples
+    }
+
+    /// How many numbers are in use: those of the current records, of open ones, and of records that ended
+    /// or were given up.
+    pub fn in_use(&self) -> u64
+        ensures value { result ≡ used_count self.now.records }
+        ensures parts { AreUsed self.now.records }
+        ensures few { result ≤ last_node + 1 }
+    {
+        // The length says of the listed numbers that they are in order.
+        let _all = self.index.len();
+        self.pool.nodes_in_use()
     }
 
     /// Whether the record of a number is open.

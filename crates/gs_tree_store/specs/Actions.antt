@@ -3,44 +3,37 @@ use Rattle.std.specs.Prelude.{◌≡◌, ℕ, ◌+◌, List, Some, None, slice_i
 use Rattle.std.specs.List.{slice_set}
 use Rattle.gs_model.specs.Graphs.{size_of, with_triples}
 use Rattle.gs_event.specs.declared.events.Action.{Action}
-use Rattle.gs_event.specs.declared.events.Action.TheVariants.{Stage, Commit, CommitPatch, Delete, Cancel}
+use Rattle.gs_event.specs.declared.events.Action.TheVariants.{Open, OpenPatch, Stage, Commit, CommitPatch}
 use Rattle.gs_event.specs.declared.events.UploadKind.TheVariants.{Put}
 use Rattle.gs_event.specs.declared.answers.Answer.{Answer}
-use Rattle.gs_event.specs.declared.answers.Answer.TheVariants.{Staged, Status, Cancelled}
-use Rattle.gs_event.specs.Operations.{is_success}
+use Rattle.gs_event.specs.declared.answers.Answer.TheVariants.{Opened, Staged, Status}
 use Rattle.gs_event.specs.Phases.{Writing}
 use Rattle.gs_event.specs.Views.{Totals, SeatView, FitsSeat, next_totals, next_phase}
-use Rattle.gs_event.specs.Waste.{Lifetime}
-use Rattle.gs_event.specs.Steps.{pin_after, WastesCommit, WastesPatch, WastesDelete, WastesCancel}
+use Rattle.gs_event.specs.Steps.{pin_after}
 use Rattle.gs_pool.specs.Pool.{in_use}
 use Rattle.gs_tree.specs.Tree.{Tree}
 use Rattle.gs_staging.specs.Keys.{Grows}
 use Rattle.gs_ledger.specs.Marks.{waste_at}
 use Rattle.gs_tree_store.specs.declared.books.Books.{Books}
 use Rattle.gs_tree_store.specs.declared.books.Seat.{Seat}
+use Rattle.gs_tree_store.specs.NodeWaste.{WastesNodes, TakesNodes}
 use Rattle.gs_tree_store.specs.Books.{totals_of, seat_view_by, read_trees, IsSeat, IsSound, IsReady, HasLedgerAt}
 
--- what a seat's action that was answered so makes of the waste
-abbrev pub SeatWastes : Totals → SeatView → Action → Answer → List Lifetime → List Lifetime → Type 0
-SeatWastes v p Commit (Status status name) old new = WastesCommit v (Some p) (is_success status) old new
-SeatWastes v p (CommitPatch ops) (Status status name) old new = WastesPatch v (Some p) ops.items (is_success status) old new
-SeatWastes v p (Delete t) (Status status name) old new = WastesDelete v t (is_success status) old new
-SeatWastes v p Cancel Cancelled old new = WastesCancel (Some p) old new
-SeatWastes v p action a old new = new ≡ old
-
--- What it makes of the number of nodes in use: a Stage raises it by the triples that are new to its upload. What a POST, a new graph
--- and a PATCH take is said of every step, and nothing else changes it.
+-- What a seat's action that was answered so makes of the number of nodes and records in use: an Open raises it by one, and a Stage by the
+-- triples that are new to its upload. What a POST, a new graph and a PATCH take is said of every step, and nothing else changes it.
 abbrev pub SeatUses : SeatView → Action → Answer → ℕ → ℕ → Type 0
+SeatUses p (Open k) (Opened r) old new = new ≡ old + 1
+SeatUses p (OpenPatch t) (Opened r) old new = new ≡ old + 1
 SeatUses (Writing k r g) (Stage ts) Staged old new = new + size_of g ≡ old + size_of (with_triples g ts.items)
 SeatUses (Writing (Put t) r g) Commit (Status status name) old new = new ≡ old
 SeatUses (Writing k r g) Commit (Status status name) old new = Unit {0}
 SeatUses p (CommitPatch ops) (Status status name) old new = Unit {0}
 SeatUses p action a old new = new ≡ old
 
--- where there was a ledger with the trees of the other seats, there is one still, and the waste is what the action makes of it
+-- where there was a ledger with the trees of the other seats, there is one still, and the waste of nodes is what the action makes of it
 pub record GoesOn (old new : Books) (s : ℕ) (was now : Seat) (action : Action) (answer : Answer) (uploads : List Tree) (reads : List (List Tree)) : Type 0 where
   pub ledger : HasLedgerAt new s now uploads (slice_set reads s (read_trees new.pool now))
-  pub waste : SeatWastes (totals_of old) (seat_view_by old was) action answer (waste_at old.pool) (waste_at new.pool)
+  pub waste : WastesNodes (totals_of old) (seat_view_by old was) action answer (waste_at old.pool) (waste_at new.pool)
 
 -- that is so whatever trees the other seats have
 abbrev pub GoesOnAll : Books → Books → ℕ → Seat → Seat → Action → Answer → Type 0
@@ -57,7 +50,7 @@ pub record Acts (old new : Books) (s : ℕ) (was now : Seat) (action : Action) (
   pub known : IsSeat new.dict.terms new.pool now
   pub grows : Grows old.dict new.dict
   pub ledgers : GoesOnAll old new s was now action answer
-  pub uses : SeatUses (seat_view_by old was) action answer (in_use old.pool) (in_use new.pool)
+  pub takes : TakesNodes (seat_view_by old was) action answer (in_use old.pool) (in_use new.pool)
 
 -- there is a seat that the books are ready for
 pub record IsReadyAny (b : Books) (seat : Seat) : Type 0 where

@@ -1,18 +1,19 @@
 -- What a store's fields show, and what is true of them.
-use Rattle.std.specs.Prelude.{◌≡◌, map, is_some}
+use Rattle.std.specs.Prelude.{◌≡◌, ◌++◌, map, is_some}
 use Rattle.std.specs.List.{All}
 use Rattle.gs_event.specs.Waste.{Shown}
 use Rattle.gs_ledger.specs.Marks.{waste_at}
+use Rattle.gs_records.specs.Waste.{waste_in}
 use Rattle.gs_tree_store.specs.declared.stores.TreeStore.TheInside.{Inside}
 use Rattle.gs_tree_store.specs.Books.{totals_of, seat_view_by, upload_tree, read_trees, is_reading, IsSeat, IsSound, HasLedger}
 use Rattle.gs_tree_store.specs.Opened.{HaveRecords}
 
--- the view of the books and the seats, the pins, and the waste that the marks of the pool say
+-- the view of the books and the seats, the pins, and the waste: of nodes, as the marks of the pool say, and of records
 abbrev pub shown_of : Inside → Shown
 shown_of a = record {
   view = record { totals = totals_of a.books; seats = map (seat_view_by a.books) a.seats.items };
   pinned = a.books.versions.seats;
-  waste = waste_at a.books.pool;
+  waste = waste_at a.books.pool ++ waste_in a.books.records.records;
 }
 
 -- Each seat is known, a seat has a pin where it reads, each upload and each patch has an open record of its own, and the ledger has the

@@ -1,4 +1,4 @@
--- How many nodes an event that was answered so takes into use, where that is told exactly.
+-- How many nodes and records an event that was answered so takes into use, where that is told exactly.
 use Rattle.std.specs.Prelude.{◌≡◌, ◌+◌, Option, Some}
 use Rattle.std.specs.List.{slice_get}
 use Rattle.gs_event.specs.declared.events.Event.{Event}
@@ -21,7 +21,7 @@ UsesNodes old (Reclaim n) (Reclaimed freed left) new = nodes_in new + freed ≡ 
 UsesNodes old (Reclaim n) a new = nodes_in new ≡ nodes_in old
 UsesNodes old (At s action) a new = UsesAt (slice_get old.view.seats s) (At s action) a old new
 
--- one step of a store over trees: that of every store, and the nodes that it uses
+-- one step of a store over trees: that of every store, and the nodes and records that it uses
 pub record TreeSteps (old : Shown) (e : Event) (a : Answer) (new : Shown) : Type 0 where
   pub steps : Steps old e a new
   pub uses : UsesNodes old e a new

@@ -1,5 +1,5 @@
 -- What a write makes of the books. No public clause cites this module.
-use Rattle.std.specs.Prelude.{◌≡◌, ℕ, ◌+◌, List, ◌∷◌, string_bytes}
+use Rattle.std.specs.Prelude.{◌≡◌, ℕ, ◌+◌, true, List, ◌∷◌, string_bytes}
 use Rattle.gs_term.specs.declared.names.Target.{Target}
 use Rattle.gs_event.specs.Datasets.{with_graph, without_graph, size_at}
 use Rattle.gs_event.specs.Steps.{Joins, EndsAt}
@@ -7,9 +7,12 @@ use Rattle.gs_keys.specs.Roots.{graph_of_root}
 use Rattle.gs_tree.specs.Tree.{Tree, tree_at}
 use Rattle.gs_catalogue.specs.declared.versions.GraphVersion.{GraphVersion}
 use Rattle.gs_ledger.specs.Marks.{waste_at}
+use Rattle.gs_records.specs.Waste.{waste_in}
+use Rattle.gs_records.specs.Calls.{KeepsCounts, UsesOne}
 use Rattle.gs_datasets.specs.Standing.{IsVersion}
 use Rattle.gs_tree_store.specs.declared.books.Books.{Books}
-use Rattle.gs_tree_store.specs.Books.{dataset_of, IsSound, HasLedger}
+use Rattle.gs_tree_store.specs.Books.{totals_of, dataset_of, IsSound, HasLedger}
+use Rattle.gs_tree_store.specs.RecordWaste.{CommitRecords, DeleteRecords}
 use Rattle.gs_tree_store.specs.Opened.{LetsGo, SameOpened}
 
 -- some trees of the seats have a ledger with the books
@@ -47,6 +50,8 @@ pub record Puts (old new : Books) (n : ℕ) (t : Target) (v : GraphVersion) : Ty
   pub sound : IsSound new
   pub ledgers : (uploads : List Tree) (reads : List (List Tree)) → HasLedger old (tree_at old.pool v.root ∷ uploads) reads → EndsOneVersion old new (size_at (dataset_of old) t) uploads reads
   pub lets_go : LetsGo old new n
+  pub counts : UsesOne old.records.records new.records.records
+  pub waste : CommitRecords (totals_of old) t (graph_of_root old.dict.terms old.pool v.root) (waste_in old.records.records) (waste_in new.records.records)
 
 -- the target has no graph now, or an empty one where it is the default graph
 pub record Removes (old new : Books) (t : Target) : Type 0 where
@@ -55,3 +60,5 @@ pub record Removes (old new : Books) (t : Target) : Type 0 where
   pub sound : IsSound new
   pub ledgers : (uploads : List Tree) (reads : List (List Tree)) → HasLedger old uploads reads → EndsOneVersion old new (size_at (dataset_of old) t) uploads reads
   pub same_opened : SameOpened old new
+  pub counts : KeepsCounts old.records.records new.records.records
+  pub waste : DeleteRecords (totals_of old) t true (waste_in old.records.records) (waste_in new.records.records)

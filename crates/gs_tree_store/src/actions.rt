@@ -24,7 +24,7 @@ pub fn act(
     requires ready { IsReady books.old number seat.old }
     requires opened { HasRecord books.old seat.old }
     ensures acts { Acts books.old books.new number seat.old seat.new action.now result }
-    ensures records { KeepsRecords books.old books.new seat.old seat.new }
+    ensures records { KeepsRecords books.old books.new seat.old seat.new action.now result }
 {
     match action {
         Action::Open(kind) => open(books, seat, kind),
@@ -44,7 +44,7 @@ pub fn act(
 fn open(books: &mut Books, seat: &mut Seat, kind: &UploadKind) -> Answer
     requires { IsReadyAny books.old seat.old }
     ensures acts { ActsAny books.old books.new seat.old seat.new (Action.Open kind.now) result }
-    ensures records { KeepsRecords books.old books.new seat.old seat.new }
+    ensures records { KeepsRecords books.old books.new seat.old seat.new (Action.Open kind.now) result }
 {
     let Seat::Idle = seat else {
         return Answer::Refused(Refusal::WrongPhase);
@@ -67,7 +67,7 @@ fn open(books: &mut Books, seat: &mut Seat, kind: &UploadKind) -> Answer
 fn stage(books: &mut Books, seat: &mut Seat, alloc: Global, triples: &Vec<Triple>) -> Answer
     requires { IsReadyAny books.old seat.old }
     ensures acts { ActsAny books.old books.new seat.old seat.new (Action.Stage triples.now) result }
-    ensures records { KeepsRecords books.old books.new seat.old seat.new }
+    ensures records { KeepsRecords books.old books.new seat.old seat.new (Action.Stage triples.now) result }
 {
     let Seat::Writing(_, _, upload, _) = seat else {
         return Answer::Refused(Refusal::WrongPhase);
@@ -96,7 +96,7 @@ fn cancel(books: &mut Books, seat: &mut Seat, number: u16) -> Answer
     requires ready { IsReady books.old number seat.old }
     requires opened { HasRecord books.old seat.old }
     ensures acts { Acts books.old books.new number seat.old seat.new Action.Cancel result }
-    ensures records { KeepsRecords books.old books.new seat.old seat.new }
+    ensures records { KeepsRecords books.old books.new seat.old seat.new Action.Cancel result }
 {
     match seat {
         Seat::Idle => return Answer::Refused(Refusal::WrongPhase),

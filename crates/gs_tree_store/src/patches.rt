@@ -20,7 +20,7 @@ use std::mem;
 pub fn open(books: &mut Books, seat: &mut Seat, target: &Target) -> Answer
     requires { IsReadyAny books.old seat.old }
     ensures acts { ActsAny books.old books.new seat.old seat.new (OpenPatch target.now) result }
-    ensures records { KeepsRecords books.old books.new seat.old seat.new }
+    ensures records { KeepsRecords books.old books.new seat.old seat.new (OpenPatch target.now) result }
 {
     let Seat::Idle = seat else {
         return Answer::Refused(Refusal::WrongPhase);
@@ -44,7 +44,7 @@ pub fn commit(books: &mut Books, seat: &mut Seat, alloc: Global, operations: &Ve
     requires ready { IsReadyAny books.old seat.old }
     requires opened { HasRecord books.old seat.old }
     ensures acts { ActsAny books.old books.new seat.old seat.new (CommitPatch operations.now) result }
-    ensures records { KeepsRecords books.old books.new seat.old seat.new }
+    ensures records { KeepsRecords books.old books.new seat.old seat.new (CommitPatch operations.now) result }
 {
     match mem::replace(seat, Seat::Idle) {
         Seat::Patching(target, request, opened) => {
@@ -72,7 +72,8 @@ fn commit_at(
     requires idle { seat.old ≡ Seat.Idle }
     ensures acts { ActsAny books.old books.new (Patching target request opened) seat.new
         (CommitPatch operations.now) result }
-    ensures records { KeepsRecords books.old books.new (Patching target request opened) seat.new }
+    ensures records { KeepsRecords books.old books.new (Patching target request opened) seat.new
+        (CommitPatch operations.now) result }
 {
     if !books::is_there(books, &target) {
         books.records.give_up(opened);

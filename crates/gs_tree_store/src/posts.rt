@@ -34,8 +34,8 @@ pub fn commit_post(
     requires idle { seat.old ≡ Seat.Idle }
     ensures acts { ActsAny books.old books.new (Writing (Post target) request upload opened) seat.new
         Commit result }
-    ensures records { KeepsRecords books.old books.new (Writing (Post target) request upload opened)
-        seat.new }
+    ensures records { KeepsRecords books.old books.new (Writing (Post target) request upload opened) seat.new
+        Commit result }
 {
     let held = holdings(books);
     let place = place(books, &target);

@@ -19,7 +19,7 @@ use std::alloc::{AllocError, Global};
 pub fn head(books: &mut Books, seat: &mut Seat, target: &Target) -> Answer
     requires { IsReadyAny books.old seat.old }
     ensures acts { ActsAny books.old books.new seat.old seat.new (Head target.now) result }
-    ensures records { KeepsRecords books.old books.new seat.old seat.new }
+    ensures records { KeepsRecords books.old books.new seat.old seat.new (Head target.now) result }
 {
     let Seat::Idle = seat else {
         return Answer::Refused(Refusal::WrongPhase);
@@ -32,7 +32,7 @@ pub fn head(books: &mut Books, seat: &mut Seat, target: &Target) -> Answer
 pub fn pin(books: &mut Books, seat: &mut Seat, number: u16, target: &Target) -> Answer
     requires { IsReady books.old number seat.old }
     ensures acts { Acts books.old books.new number seat.old seat.new (Pin target.now) result }
-    ensures records { KeepsRecords books.old books.new seat.old seat.new }
+    ensures records { KeepsRecords books.old books.new seat.old seat.new (Pin target.now) result }
 {
     let Seat::Idle = seat else {
         return Answer::Refused(Refusal::WrongPhase);
@@ -49,7 +49,7 @@ pub fn pin(books: &mut Books, seat: &mut Seat, number: u16, target: &Target) -> 
 pub fn piece(books: &mut Books, seat: &mut Seat, number: u16, alloc: Global, count: u32) -> Answer
     requires { IsReady books.old number seat.old }
     ensures acts { Acts books.old books.new number seat.old seat.new (PieceOf count) result }
-    ensures records { KeepsRecords books.old books.new seat.old seat.new }
+    ensures records { KeepsRecords books.old books.new seat.old seat.new (PieceOf count) result }
 {
     let Seat::Reading(root, last) = seat else {
         return Answer::Refused(Refusal::WrongPhase);

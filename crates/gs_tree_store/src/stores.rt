@@ -23,13 +23,6 @@ use gs_versions::Versions;
 use std::alloc::{AllocError, Global};
 use std::marker::Model;
 
-// How many ended records an Open lets go first: it takes one, so they do not pile up where no node is waste.
-const RECORDS_AT_AN_OPEN: u64 = 2;
-
-// A Reclaim lets go of one ended record for so many nodes that it is asked to free: a record costs walks down
-// the index, and everybody waits.
-const NODES_FOR_A_RECORD: u64 = 16;
-
 /// A store that keeps all versions of all graphs as trees over one pool, which share what they have in
 /// common. A write costs what it changes, a read holds its version, and nodes that no version needs are
 /// given back by a Reclaim. A contract sees what it shows, and its waste.
@@ -104,20 +97,16 @@ impl TreeStore {
     {
         match event {
             Event::Reclaim(count) => self.reclaim(*count),
-            Event::Seat(seat, action) => {
-                if matches!(action, Action::Open(_) | Action::OpenPatch(_)) {
-                    self.let_go(RECORDS_AT_AN_OPEN);
-                }
-                self.act(*seat, action)
-            }
+            Event::Seat(seat, action) => self.act(*seat, action),
         }
     }
 
-    /// Nodes in use: one for each triple of a current graph or of an open upload, and the waste.
+    /// Nodes and records in use: a node for each triple of a current graph or of an open upload, the records
+    /// of the current graphs and of open uploads and patches, and the waste.
     pub fn nodes_in_use(&self) -> u64
         ensures { result ≡ nodes_in self.now }
     {
-        self.books.pool.nodes_in_use()
+        self.books.pool.nodes_in_use() + self.books.records.in_use()
     }
 
     /// Triples of the current graphs.
@@ -129,22 +118,14 @@ impl TreeStore {
         self.books.records.triples() as u64
     }
 
-    /// Frees nodes that no version needs, and beside them some records that ended.
+    /// Frees nodes that no version needs, and then records.
     fn reclaim(&mut self, count: u64) -> Answer
         ensures steps { Steps self.old (Event.Reclaim count) result self.new }
     {
-        let done = reclaim(&mut self.books.pool, &self.books.versions, count);
-        let few = count / NODES_FOR_A_RECORD;
-        let _beside = self.books.records.reclaim(&self.books.versions, few);
-        Answer::Reclaimed(done.freed, done.left)
-    }
-
-    // Lets go of records that ended and that no pinned version needs, at most so many, which shows in nothing
-    // but memory.
-    fn let_go(&mut self, most: u64)
-        ensures { self.new ≡ self.old }
-    {
-        let _gone = self.books.records.reclaim(&self.books.versions, most);
+        let nodes = reclaim(&mut self.books.pool, &self.books.versions, count);
+        let left = count - nodes.freed;
+        let records = self.books.records.reclaim(&self.books.versions, left);
+        Answer::Reclaimed(nodes.freed + records.freed, nodes.left || records.left)
     }
 
     fn act(&mut self, number: u16, action: &Action) -> Answer
@@ -155,8 +136,12 @@ impl TreeStore {
         if place >= self.seats.len() {
             return Answer::Refused(Refusal::BadSeat);
         }
+        // The count says of which records the numbers in use are, before the action and after it.
+        let _before = self.books.records.in_use();
         let held = &mut self.seats[place];
-        actions::act(&mut self.books, held, number, self.alloc, action)
+        let answer = actions::act(&mut self.books, held, number, self.alloc, action);
+        let _after = self.books.records.in_use();
+        answer
     }
 }
 

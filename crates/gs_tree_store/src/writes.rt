@@ -24,7 +24,7 @@ pub fn commit(books: &mut Books, seat: &mut Seat, alloc: Global) -> Answer
     requires ready { IsReadyAny books.old seat.old }
     requires opened { HasRecord books.old seat.old }
     ensures acts { ActsAny books.old books.new seat.old seat.new Commit result }
-    ensures records { KeepsRecords books.old books.new seat.old seat.new }
+    ensures records { KeepsRecords books.old books.new seat.old seat.new Commit result }
 {
     match mem::replace(seat, Seat::Idle) {
         Seat::Writing(kind, request, upload, opened) => match kind {
@@ -55,7 +55,8 @@ fn commit_put(
     requires idle { seat.old ≡ Seat.Idle }
     ensures acts { ActsAny books.old books.new (Writing (Put target) request upload opened) seat.new
         Commit result }
-    ensures records { KeepsRecords books.old books.new (Writing (Put target) request upload opened) seat.new }
+    ensures records { KeepsRecords books.old books.new (Writing (Put target) request upload opened) seat.new
+        Commit result }
 {
     let found = books.records.get(&target);
     match verdict_on_upload(books, &target, found, upload) {
@@ -89,7 +90,8 @@ fn commit_new(
     requires opened { HasRecord books.old (Writing New request upload opened) }
     requires idle { seat.old ≡ Seat.Idle }
     ensures acts { ActsAny books.old books.new (Writing New request upload opened) seat.new Commit result }
-    ensures records { KeepsRecords books.old books.new (Writing New request upload opened) seat.new }
+    ensures records { KeepsRecords books.old books.new (Writing New request upload opened) seat.new
+        Commit result }
 {
     let Ok((name, location)) = names::new_name_twice(books, alloc, request) else {
         *seat = Seat::Writing(UploadKind::New, request, upload, opened);
@@ -119,7 +121,7 @@ fn commit_new(
 pub fn delete(books: &mut Books, seat: &mut Seat, target: &Target) -> Answer
     requires { IsReadyAny books.old seat.old }
     ensures acts { ActsAny books.old books.new seat.old seat.new (Delete target.now) result }
-    ensures records { KeepsRecords books.old books.new seat.old seat.new }
+    ensures records { KeepsRecords books.old books.new seat.old seat.new (Delete target.now) result }
 {
     let Seat::Idle = seat else {
         return Answer::Refused(Refusal::WrongPhase);
