@@ -1,4 +1,4 @@
--- The front of a token, read straight on over bytes of ASCII.
+-- A prefix of a token, read straight on over bytes of ASCII.
 use Rattle.std.specs.Prelude.{◌≡◌, ℕ, ◌≤◌, ◌<◌, Bool, true, ◌==◌, ◌||◌, List, length, drop, get_or, Some, None}
 use Rattle.gs_model.specs.Characters.{underscore}
 use Rattle.gs_model.specs.Punctuation.{left_parenthesis, right_parenthesis, comma, semicolon}

@@ -19,7 +19,7 @@ pub record IsShort (x : List ℕ) : Type 0 where
   pub some : others ≢ []
   pub parts : encode_utf8 character ≡ x ++ others
 
--- a character; bytes that begin none, whatever follows; or the front of one
+-- a character; bytes that begin none, whatever follows; or a prefix of one
 abbrev pub IsFront : Symbol → List ℕ → Type 0
 IsFront (Character c n) x = BeginsWith c n x
 IsFront Bad x = (y : List ℕ) → StartsWithNoChar (x ++ y)

@@ -1,4 +1,4 @@
-//! The fronts of the tokens that are most: straight on through states that are known, over bytes of
+//! Prefixes of most tokens: straight on through states that are known, over bytes of
 //! ASCII.
 ghost use Rattle.std.specs.Prelude.{◌≤◌, ◌<◌, length};
 ghost use Rattle.gs_automaton.specs.Fronts.{GoesOver, IsAtStart, LeadsOn};
@@ -69,7 +69,7 @@ fn underscore(text: &[u8], from: Scan) -> (Scan, bool)
     (scan, false)
 }
 
-/// Over an IRI, or over its front up to an escape.
+/// Over an IRI, or over its prefix up to an escape.
 #[inline(always)]
 fn iri(text: &[u8], from: Scan) -> (Scan, bool)
     requires leads { LeadsOn text.now from (at.Inside inside.Iri) }
@@ -139,7 +139,7 @@ fn carets(text: &[u8], from: Scan) -> (Scan, bool)
     (scan, false)
 }
 
-/// Over the front of a token, where it begins with punctuation or a quote.
+/// Over a prefix of a token, where it begins with punctuation or a quote.
 #[inline(always)]
 fn over_mark(text: &[u8], from: Scan) -> (Scan, bool)
     requires start { IsAtStart from.state }
@@ -166,7 +166,7 @@ fn over_mark(text: &[u8], from: Scan) -> (Scan, bool)
     }
 }
 
-/// Over the front of a token, as far as it goes straight on.
+/// Over a prefix of a token, as far as it goes straight on.
 #[inline(always)]
 pub fn over_front(text: &[u8], from: Scan) -> (Scan, bool)
     requires start { IsAtStart from.state }

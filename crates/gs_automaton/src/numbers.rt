@@ -1,4 +1,4 @@
-//! The fronts of numbers.
+//! Prefixes of numbers.
 ghost use Rattle.std.specs.Prelude.{◌≤◌};
 ghost use Rattle.gs_automaton.specs.Fronts.{GoesOver, LeadsOn};
 ghost use Rattle.gs_automaton.specs.declared.states.State.TheVariants as at;

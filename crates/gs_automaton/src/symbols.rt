@@ -11,7 +11,7 @@ pub enum Symbol {
     Character(char, usize),
     /// Bytes that begin no character, whatever follows.
     Bad,
-    /// Nothing, or the front of a character.
+    /// Nothing, or a prefix of a character.
     Short,
 }
 

@@ -6,8 +6,8 @@ use Rattle.gs_machine.specs.Machines.{AreSettled, Begins}
 use Rattle.gs_machine.specs.Utf8.{IsLongestFront}
 use Rattle.gs_body.specs.Bodies.{Meaning, Whole, Reports, all_stated}
 
--- A piece was fed: the list grew by some triples. With them a reader of x that had given ts has given just the
--- triples of the complete statements: of the longest front of the text so far that ends between two characters, all
+-- A piece was fed: the list grew by some triples. With them a reader of x that had given ts has given exactly the
+-- triples of the complete statements: of the longest prefix of the text so far that ends between two characters, all
 -- that it means however it goes on. They begin what the whole text means, however that goes on.
 pub record Feeds {R : Type 0} (meaning_of : R → List ℕ → Meaning) (Leads : R → List ℕ → List RdfTriple → Type 0) (old new : R) (piece : List ℕ) (before after : List RdfTriple) : Type 0 where
   pub given : List RdfTriple

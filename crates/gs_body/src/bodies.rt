@@ -25,7 +25,7 @@ pub trait BodyReader {
     ghost is_closed: { Self → Bool };
 
     /// Takes the next piece, and appends the triples of the statements that are complete now: those
-    /// that every text has that begins with the longest front of the text so far that ends between
+    /// that every text has that begins with the longest prefix of the text so far that ends between
     /// two characters. A statement that only the first bytes of the next character would complete is
     /// given once that character ends.
     fn feed(&mut self, piece: &[u8], triples: &mut Vec<Triple>) -> Result<(), Refusal>

@@ -5,7 +5,7 @@ use gs_model::Refusal;
 use gs_term::Target;
 use std::alloc::Global;
 
-/// Names in pairs: the last byte differs, the first is a front of the second, or the first is
+/// Names in pairs: the last byte differs, the first is a prefix of the second, or the first is
 /// longer and yet comes first.
 const PAIRS: [(&str, &str); 8] = [
     ("e:graph1", "e:graph2"),

@@ -7,7 +7,7 @@ use std::alloc::Global;
 /// How many targets there are: the default graph and the names.
 pub const TARGETS: usize = 41;
 
-/// Names, of which many are a front of another, and many differ in one byte.
+/// Names, of which many are a prefix of another, and many differ in one byte.
 const NAMES: [&str; 40] = [
     "e:",
     "e:a",

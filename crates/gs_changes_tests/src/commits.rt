@@ -99,7 +99,7 @@ fn put_keys(
     put_keys(pool, node.right, depth - 1, keys)
 }
 
-/// Whether a tree has just these keys.
+/// Whether a tree has exactly these keys.
 fn has_just(
     alloc: Global,
     pool: &Pool,
@@ -165,7 +165,7 @@ fn is_kept_in(
     Ok(right && changed.added == added && changed.removed == removed && pool.next_aside().is_none())
 }
 
-/// Whether a commit that is kept makes a set of just these keys, and says that so many came and so many
+/// Whether a commit that is kept makes a set of exactly these keys, and says that so many came and so many
 /// went. What it replaced is retired; both sets still have the keys that they had.
 pub fn is_kept(
     alloc: Global,

@@ -1,4 +1,4 @@
--- Turtle's statements and documents (25 February 2014, section 6.5), each with just the tokens that it spans.
+-- Turtle's statements and documents (25 February 2014, section 6.5), each with exactly the tokens that it spans.
 use Rattle.std.specs.Prelude.{◌≡◌, ℕ, List, [], ◌∷◌, ◌++◌, codes, Some}
 use Rattle.gs_model.specs.Triples.{RdfTriple}
 use Rattle.gs_lex.specs.Tokens.{Lexeme}

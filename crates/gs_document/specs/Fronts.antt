@@ -1,4 +1,4 @@
--- A list of tokens that is no document, by the grammar's rules alone: the statements of its longest front.
+-- A list of tokens that is no document, by the grammar's rules alone: the statements of its longest prefix.
 use Rattle.std.specs.Prelude.{◌≡◌, ℕ, ◌≤◌, List, ◌++◌, length}
 use Rattle.gs_lex.specs.Tokens.{Lexeme}
 use Rattle.gs_blank.specs.Numbers.{Numbers, no_numbers}
@@ -12,8 +12,8 @@ abbrev pub NoStatement : TurtleContext → Numbers → List Symbol → Type 0
 NoStatement env n ts =
     (xs ys : List Symbol) (S : List Statement) (next : TurtleContext) (k : Numbers) → ts ≡ xs ++ ys → IsStatement env n xs S next k → ⊥
 
--- These are the statements of a front of the tokens. No statement begins after it, in the context that it leaves, and so
--- no longer front is whole statements.
+-- These are the statements of a prefix of the tokens. No statement begins after it, in the context that it leaves, and so
+-- no longer prefix is whole statements.
 pub record AreLongest (env : TurtleContext) (n : Numbers) (ts : List Symbol) (S : List Statement) : Type 0 where
   pub front : List Symbol
   pub after : List Symbol
@@ -25,6 +25,6 @@ pub record AreLongest (env : TurtleContext) (n : Numbers) (ts : List Symbol) (S 
   pub longest : (xs ys : List Symbol) (R : List Statement) (next : TurtleContext) (k : Numbers)
       → ts ≡ xs ++ ys → AreStatements env n xs R next k → length xs ≤ length front
 
--- a text's tokens, under this base and in this request: the statements of the longest front that has any
+-- a text's tokens, under this base and in this request: the statements of the longest prefix that has any
 abbrev pub AreBeforeFault : List ℕ → ℕ → List Lexeme → List Statement → Type 0
 AreBeforeFault b r ts S = AreLongest (start b r) no_numbers (symbols_of ts) S

@@ -12,7 +12,7 @@ use Rattle.gs_document.specs.Program.{document}
 use Rattle.gs_document.specs.States.{Between}
 use Rattle.gs_document.specs.Machine.{turtle}
 
--- the program finds just the documents that the rules give
+-- the program finds exactly the documents that the rules give
 abbrev pub FindsDocuments : List ℕ → ℕ → List Lexeme → Type 0
 FindsDocuments b r ts = (S : List Statement) → (IsDocument b r ts S ↔ (document b r ts ≡ (S, Whole)))
 
@@ -24,7 +24,7 @@ HasOneMeaning b r ts = (S R : List Statement) → IsDocument b r ts S → IsDocu
 abbrev pub ReportsDocument : List ℕ → ℕ → List Lexeme → Type 0
 ReportsDocument b r ts = rest turtle (Between (start b r) no_numbers) (symbols_of ts) ≡ document b r ts
 
--- before a fault stand the statements of the longest front that has any
+-- before a fault stand the statements of the longest prefix that has any
 abbrev pub StopsAtFront : List ℕ → ℕ → List Lexeme → Type 0
 StopsAtFront b r ts = (S : List Statement) (fault : Fault) → document b r ts ≡ (S, Faulty fault) → AreBeforeFault b r ts S
 

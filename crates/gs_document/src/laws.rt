@@ -20,7 +20,7 @@ pub fn machine_reports_the_document()
     ensures { (base : List ℕ) (request : ℕ) (ts : List Lexeme) → ReportsDocument base request ts }
 {}
 
-/// Where the program finds a fault, the statements before it are those of the longest front of the
+/// Where the program finds a fault, the statements before it are those of the longest prefix of the
 /// tokens that is whole statements by the grammar's rules. A broken text's fault is placed at the
 /// end of the last of them.
 pub fn fault_ends_the_longest_front()

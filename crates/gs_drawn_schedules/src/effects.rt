@@ -40,7 +40,7 @@ impl Effect {
         }
     }
 
-    /// How many nodes a Reclaim freed, which are just those that are no more in use, and whether waste is
+    /// How many nodes a Reclaim freed, which are exactly those that are no more in use, and whether waste is
     /// left.
     pub fn freed(&self, moment: Moment) -> Result<(u64, bool), Stop> {
         let Answer::Reclaimed(freed, left) = self.answer else {

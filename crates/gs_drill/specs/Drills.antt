@@ -121,7 +121,7 @@ pub record Halts (given old new : Option (List ℕ)) : Type 0 where
   pub plays : Plays first_state before text last
   pub written : Appends old new text
 
--- the same, where a front of what they print is written
+-- the same, where a prefix of what they print is written
 pub record BreaksOff (given old new : Option (List ℕ)) : Type 0 where
   pub input : List ℕ
   pub read : IsInput given input
@@ -133,8 +133,8 @@ pub record BreaksOff (given old new : Option (List ℕ)) : Type 0 where
   pub plays : Plays first_state before text last
   pub written : WritesFront old new text
 
--- A read or a write failed. Of what some first lines print a front is written, and nothing is said; or the run ended
--- early, what its lines print is written, and of what is said of that a front.
+-- A read or a write failed. Of what some first lines print a prefix is written, and nothing is said; or the run ended
+-- early, what its lines print is written, and of what is said of that a prefix.
 abbrev pub FailsRun : Option (List ℕ) → Option (List ℕ) → Option (List ℕ) → Option (List ℕ) → Option (List ℕ) → Type 0
 FailsRun given old new errors_old errors_new = (BreaksOff given old new × Appends errors_old errors_new [])
     ⊎ (((n : ℕ) × StopsAtLine given n old new × WritesFront errors_old errors_new (no_command_text n))

@@ -56,13 +56,13 @@ no_command_text line = codes "gsdrill: line " ++ numeral line ++ codes " is no c
 abbrev pub no_memory_text : List ℕ
 no_memory_text = codes "gsdrill: no memory" ++ line_feed ∷ []
 
--- a front of the text is written
+-- a prefix of the text is written
 pub record WritesFront (old new : Option (List ℕ)) (text : List ℕ) : Type 0 where
   pub printed : List ℕ
   pub rest : List ℕ
   pub parts : text ≡ printed ++ rest
   pub appends : Appends old new printed
 
--- the text is written; where that fails, a front of it
+-- the text is written; where that fails, a prefix of it
 abbrev pub Writes : {X E : Type 0} → Option (List ℕ) → Option (List ℕ) → List ℕ → Result X E → Type 0
 Writes old new text written = MatchResult written (λ _. Appends old new text) (λ _. WritesFront old new text)

@@ -29,13 +29,13 @@ pub record PrintsAll (Makes : List ℕ → Type 0) (old new : Option (List ℕ))
   pub makes : Makes text
   pub written : Appends old new text
 
--- a text is made; it is written, or a front of it
+-- a text is made; it is written, or a prefix of it
 pub record Prints {X E : Type 0} (Makes : List ℕ → Type 0) (old new : Option (List ℕ)) (outcome : Result X E) : Type 0 where
   pub text : List ℕ
   pub makes : Makes text
   pub written : Writes old new text outcome
 
--- a text is made, and a front of it written
+-- a text is made, and a prefix of it written
 pub record PrintsFront {D : Type 0} (Makes : List ℕ → D → Type 0) (old new : Option (List ℕ)) : Type 0 where
   pub text : List ℕ
   pub last : D

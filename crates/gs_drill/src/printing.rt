@@ -22,7 +22,7 @@ pub enum Reply {
     Outside,
 }
 
-/// Writes some bytes. Where that fails, a front of them is written.
+/// Writes some bytes. Where that fails, a prefix of them is written.
 fn put<W: Write>(out: &mut W, bytes: &[u8]) -> io::Result<()>
     ensures { Writes (W.contents out.old) (W.contents out.new) bytes.now result }
 {

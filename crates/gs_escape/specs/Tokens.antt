@@ -10,7 +10,7 @@ use Rattle.gs_escape.specs.declared.forms.Form.{Form}
 use Rattle.gs_escape.specs.declared.forms.Form.TheVariants as form
 use Rattle.gs_escape.specs.Meanings.{meant_after, meaning}
 
--- the text after this front, where it has it
+-- the text after this prefix, where it has it
 abbrev pub rest_after : List ℕ → List ℕ → Option (List ℕ)
 rest_after front x = if bytes_eq (take (length front) x) front then Some (drop (length front) x) else None
 

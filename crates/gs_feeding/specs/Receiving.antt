@@ -23,7 +23,7 @@ IsIn l (Faulted k) = k ≡ l
 IsIn l (Finished k) = k ≡ l
 
 -- The triples that a text gives so far, by what texts mean: with them its triples begin, however the text goes on; and
--- they are just those of its complete statements.
+-- they are exactly those of its complete statements.
 pub record GivesSoFar (meaning_of : List ℕ → Meaning) (x : List ℕ) (given : List RdfTriple) : Type 0 where
   pub begun : (z : List ℕ) → Begins (all_stated (meaning_of (x ++ z)).0) given
   pub complete : GivesComplete meaning_of x given
@@ -32,7 +32,7 @@ pub record GivesSoFar (meaning_of : List ℕ → Meaning) (x : List ℕ) (given 
 abbrev pub IsFaulty : (List ℕ → Meaning) → List ℕ → Type 0
 IsFaulty meaning_of x = ¬ ((meaning_of x).1 ≡ Whole)
 
--- after some pieces a text was fed in pieces of just n bytes, of which the last may be shorter; 0 is whole
+-- after some pieces a text was fed in pieces of exactly n bytes, of which the last may be shorter; 0 is whole
 pub record GoesOnInPieces (n : ℕ) (before : List (List ℕ)) (y : List ℕ) (after : List (List ℕ)) : Type 0 where
   pub pieces : List (List ℕ)
   pub cut : ArePieces n y pieces

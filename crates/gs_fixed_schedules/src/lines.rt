@@ -24,7 +24,7 @@ pub struct Bounds {
 }
 
 impl Bounds {
-    /// Just so many nodes, and so many triples.
+    /// Exactly so many nodes, and so many triples.
     pub fn exactly(nodes: u64, triples: u64) -> Bounds {
         Bounds {
             least: nodes,

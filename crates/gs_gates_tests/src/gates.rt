@@ -28,7 +28,7 @@ impl Gate for Count {
     }
 }
 
-/// A door that looks, as each event comes, whether the gate was called just once for it.
+/// A door that looks, as each event comes, whether the gate was called exactly once for it.
 #[derive(Drop)]
 struct Behind<'a, D: Door> {
     gate: &'a Count,

@@ -54,7 +54,7 @@ const STEPS: [(&str, Step, bool); 20] = [
     ("a question again", Step::Head, false),
 ];
 
-/// Takes a step; whether a note follows just where one is due, and none came too early.
+/// Takes a step; whether a note follows exactly where one is due, and none came too early.
 fn is_right<D: Door, R: Wait>(
     rt: &R,
     alloc: Global,

@@ -42,7 +42,7 @@ is_chunk_line l =
     (nat_lt 0 (length l.digits) && (nat_le (length l.digits) 16 && list_all is_ascii_hexdigit l.digits))
     && (list_all is_ows l.pad && is_extension l.extension)
 
--- the text is just this line
+-- the text is exactly this line
 abbrev pub is_line : ChunkLine → List ℕ → Bool
 is_line l b = is_chunk_line l && bytes_eq b (print_chunk_line l)
 

@@ -15,6 +15,6 @@ values_of name (f ∷ fs) = if bytes_eq (lowercase f.0) name then f.1 ∷ values
 abbrev pub kept_under : Entries (Bor (List ℕ)) → List ℕ → List (List ℕ)
 kept_under m name = map (λ (v : Bor (List ℕ)). v.now) (get_all m name)
 
--- a map keeps just the values of these fields, under each name
+-- a map keeps exactly the values of these fields, under each name
 abbrev pub KeepsFields : Entries (Bor (List ℕ)) → List NameAndValue → Type 0
 KeepsFields m fs = (name : List ℕ) → kept_under m name ≡ values_of name fs

@@ -54,7 +54,7 @@ is_request_head h =
     is_token h.method && (nat_lt 0 (length h.target) && list_all is_uri_byte h.target) && is_utf8 h.target
     && nat_le h.minor 1 && list_all is_field h.fields
 
--- the text is just this head
+-- the text is exactly this head
 abbrev pub is_head : RequestHead → List ℕ → Bool
 is_head h b = is_request_head h && bytes_eq b (print_request h)
 

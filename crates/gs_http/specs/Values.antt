@@ -3,7 +3,7 @@ use Rattle.std.specs.Prelude.{◌≡◌, ℕ, List, [], ◌∷◌}
 use Rattle.gs_http.specs.declared.values.Only.{Only}
 use Rattle.gs_http.specs.declared.values.Only.TheVariants.{Absent, One, Several}
 
--- none, just this one, or at least two
+-- none, only this one, or at least two
 abbrev pub IsOnly : Only → List (List ℕ) → Type 0
 IsOnly Absent vs = vs ≡ []
 IsOnly (One v) vs = vs ≡ v.now ∷ []

@@ -1,4 +1,4 @@
-//! Entries of names that are a front of another: the bracket after a name is compared too.
+//! Entries of names that are a prefix of another: the bracket after a name is compared too.
 use crate::entries::{are_next, list_next};
 use gs_index::Index;
 use gs_model::Refusal;

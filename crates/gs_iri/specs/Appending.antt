@@ -29,7 +29,7 @@ abbrev pub AppendsTail : {Z : Type 0} → String Z → String Z → Option (Bor 
 AppendsTail old new query fragment =
     string_bytes new ≡ (string_bytes old ++ marked (codes "?") (option_copied query)) ++ marked (codes "#") (option_copied fragment)
 
--- the string has grown by a path, after a front, without its dot segments
+-- the string has grown by a path, after a prefix, without its dot segments
 abbrev pub AppendsDots : {Z : Type 0} → String Z → String Z → Option (Bor (List ℕ)) → List ℕ → Type 0
 AppendsDots old new front path = Appends old new (dots (front_text (option_copied front) ++ path))
 
@@ -38,6 +38,6 @@ abbrev pub text_with : Parts → List ℕ → List ℕ
 text_with p path =
     parts_text (option_copied p.scheme) (option_copied p.authority) path (option_copied p.query) (option_copied p.fragment)
 
--- the string has grown by these parts, their path after a front and without its dot segments
+-- the string has grown by these parts, their path after a prefix and without its dot segments
 abbrev pub AppendsRemoved : {Z : Type 0} → String Z → String Z → Parts → Option (Bor (List ℕ)) → Type 0
 AppendsRemoved old new p front = Appends old new (text_with p (dots (front_text (option_copied front) ++ p.path.now)))

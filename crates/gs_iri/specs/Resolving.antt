@@ -44,7 +44,7 @@ through_last (c ∷ cs) = if has_slash (c ∷ cs) then c ∷ through_last cs els
 unfoldable pub directory_of : Option (List ℕ) → List ℕ → List ℕ
 directory_of authority path = if is_some authority && is_empty path then codes "/" else through_last path
 
--- the front of a path, and the '/' after it
+-- a prefix of a path, and the '/' after it
 unfoldable pub front_text : Option (List ℕ) → List ℕ
 front_text None = []
 front_text (Some s) = s ++ codes "/"

@@ -61,7 +61,7 @@ fn drop_last(start: usize, resolved: &mut String)
     }
 }
 
-/// Puts one segment after what is put, if any is. The front up to `start` stays.
+/// Puts one segment after what is put, if any is. The prefix up to `start` stays.
 #[tactic(auto, unfolding(crate::specs::Output::put, crate::specs::Output::put_after))]
 fn put_segment(
     segment: &str,

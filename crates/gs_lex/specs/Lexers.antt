@@ -62,8 +62,8 @@ pub record MayGoQuietly (updates : Bool) (x : List ℕ) (ts : List Lexeme) : Typ
   pub quiet : AreQuiet last
   pub cut : IsCut updates (x ++ onward) (ts ++ last) ending
 
--- A piece was read, and its tokens given: all that are settled by the longest front of the text so far that ends between
--- two characters, and that front may go on quietly.
+-- A piece was read, and its tokens given: all that are settled by the longest prefix of the text so far that ends between
+-- two characters, and that prefix may go on quietly.
 pub record FeedsLexer (updates : Bool) (new : Lexer) (x : List ℕ) (ts : List Lexeme) (old_list new_list : List Token) : Type 0 where
   pub added : List Lexeme
   pub given : AddsTokens old_list new_list added

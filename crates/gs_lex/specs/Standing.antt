@@ -30,8 +30,8 @@ IsSpanWithin s x = s.from + s.count ≤ length x
 abbrev pub lexeme_in : List ℕ → Span → Lexeme
 lexeme_in x s = lexeme_at s.kind s.start (take s.count (drop s.from x))
 
--- The text x goes on, and after the tokens ts no token comes that it cannot change: of the longest front of x that ends
--- between two characters, all settled tokens are ts, and that front may go on quietly.
+-- The text x goes on, and after the tokens ts no token comes that it cannot change: of the longest prefix of x that ends
+-- between two characters, all settled tokens are ts, and that prefix may go on quietly.
 pub record Awaits (updates : Bool) (x : List ℕ) (ts : List Lexeme) : Type 0 where
   pub settled : (front : List ℕ) → IsLongestFront x front → AreSettledTokens updates front ts
   pub quiet : (front : List ℕ) → IsLongestFront x front → MayGoQuietly updates front ts

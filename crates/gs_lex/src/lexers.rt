@@ -10,7 +10,7 @@ use gs_model::Refusal;
 use std::alloc::{AllocError, Global};
 
 /// Cuts a text that comes in any pieces into tokens. Of the text it holds what is not cut yet: the
-/// front of one token. Its memory is that of the longest piece so far.
+/// prefix of one token. Its memory is that of the longest piece so far.
 #[derive(Drop)]
 pub struct Lexer {
     alloc: Global,

@@ -112,7 +112,7 @@ fn advance_in(text: &[u8], from: Reading, last: Span, is_end: bool) -> (Reading,
 }
 
 /// Cuts a text that comes in any pieces into tokens, one after the other. Of the text it holds the
-/// front of one token, and the last piece; of its tokens none but the last.
+/// prefix of one token, and the last piece; of its tokens none but the last.
 #[derive(Drop)]
 pub struct PieceLexer {
     held: Vec<u8>,

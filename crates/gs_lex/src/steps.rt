@@ -37,7 +37,7 @@ pub enum Step {
     Fault,
     /// Nothing, at the end of the whole text.
     End,
-    /// The front of a token, or of a character.
+    /// A prefix of a token, or of a character.
     Wait(Scan),
 }
 

@@ -66,7 +66,7 @@ utf8 = record { step = decode_step; ended = λ s. (decode_end s, tt) }
 unfoldable pub symbols : List ℕ → List ℕ
 symbols bytes = (rest utf8 Ready bytes).0
 
--- The longest front of a text that ends between two characters: what comes after it is no character, or only begins one.
+-- The longest prefix of a text that ends between two characters: what comes after it is no character, or only begins one.
 pub record IsLongestFront (x front : List ℕ) : Type 0 where
   pub after : List ℕ
   pub parts : x ≡ front ++ after

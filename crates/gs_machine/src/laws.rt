@@ -9,7 +9,7 @@ pub fn text_has_one_spelling()
     ensures one { (x cs ds : List ℕ) → Spells x cs → Spells x ds → cs ≡ ds }
 {}
 
-/// Of the fronts of a text that end between two characters one is the longest.
+/// Of the prefixes of a text that end between two characters one is the longest.
 pub fn text_has_one_longest_front()
     ensures some { (x : List ℕ) → (front : List ℕ) × IsLongestFront x front }
     ensures one { (x a b : List ℕ) → IsLongestFront x a → IsLongestFront x b → a ≡ b }

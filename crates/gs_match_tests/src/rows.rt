@@ -77,7 +77,7 @@ fn left(alloc: Global, graph: &[Triple], removed: &str) -> Result<Vec<u8>, Refus
     left
 }
 
-/// Whether just these triples of a graph are left without the instances of patterns.
+/// Whether exactly these triples of a graph are left without the instances of patterns.
 pub fn leaves(alloc: Global, graph: &str, removed: &str, wanted: &str) -> Result<bool, Refusal> {
     let wanted = lines(alloc, wanted)?;
     let graph = triples(alloc, graph)?;

@@ -48,7 +48,7 @@ abbrev pub then_meant : Meant → Meant → Meant
 then_meant (ts, Whole) next = (ts ++ next.0, next.1)
 then_meant (ts, Faulty e) next = (ts, Faulty e)
 
--- [1] document: what its lines mean, which EOL parts; `line` is the front of the first
+-- [1] document: what its lines mean, which EOL parts; `line` is a prefix of the first
 abbrev pub lines_meant : List Mark → List Mark → Meant
 lines_meant line [] = line_meant line
 lines_meant line (m ∷ ms) =

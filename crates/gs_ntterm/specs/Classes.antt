@@ -34,7 +34,7 @@ abbrev pub is_tag_char : (digits : Bool) → ℕ → Bool
 is_tag_char digits c = is_letter c || (is_digit c && digits)
 
 -- A number with one hexadecimal digit more, where it is a character's yet: one that is above every character stays so. So a
--- number that is read digit by digit has a bound, and is a character's just where the whole number is.
+-- number that is read digit by digit has a bound, and is a character's exactly where the whole number is.
 abbrev pub with_digit : ℕ → ℕ → ℕ
 with_digit v c = if nat_le v last_character then with_hex v c else v
 

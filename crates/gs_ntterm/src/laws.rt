@@ -3,7 +3,7 @@ ghost use Rattle.std.specs.Prelude.{◌≡◌, ℕ, List, true};
 ghost use Rattle.gs_model.specs.Escapes.{hex_number, is_character};
 ghost use Rattle.gs_ntterm.specs.Classes.{number_by_digits};
 
-/// The number of an escape, digit by digit, is a character's just where the number that all its
+/// The number of an escape, digit by digit, is a character's exactly where the number that all its
 /// digits write is one, and is then that number.
 pub fn digits_make_the_number()
     ensures alike { (ds : List ℕ) → is_character (number_by_digits ds) ≡ is_character (hex_number ds) }

@@ -64,7 +64,7 @@ Performs nothing t (Err BadArguments) = IsUntouched t
 Performs nothing t (Err NoMemory) = IsUntouched t
 Performs nothing t ended = ⊥
 
--- a run ended for this reason, which was said, or a front of it
+-- a run ended for this reason, which was said, or a prefix of it
 abbrev pub StopsBy : AskedTask → Traffic → Option (List ℕ) → Option (List ℕ) → Stop → Type 0
 StopsBy asked t said says stop = Performs asked t (Err stop) × AppendsFront said says (said_line stop)
 

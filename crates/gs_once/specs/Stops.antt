@@ -29,6 +29,6 @@ stop_of fault.Read = ReadFailed
 stop_of fault.Write = WriteFailed
 stop_of fault.NoMemory = NoMemory
 
--- the text was written, or a front of it
+-- the text was written, or a prefix of it
 abbrev pub AppendsFront : Option (List ℕ) → Option (List ℕ) → List ℕ → Type 0
 AppendsFront old new text = (n : ℕ) × Appends old new (take n text)

@@ -104,7 +104,7 @@ pub record IsReady (marks counts bytes : List ℕ) (at : ℕ) (first second thir
   pub second_in : IsWindowIn (length bytes) second
   pub third_in : IsWindowIn (length bytes) third
 
--- A text can stand so after the texts of a window, where what is left of it after a front are its own bytes. A text with no
+-- A text can stand so after the texts of a window, where what is left of it after a prefix are its own bytes. A text with no
 -- bytes of its own has none left.
 pub record IsWindowPlace (bytes : List ℕ) (w : Window) (x : List ℕ) (p : Place) : Type 0 where
   pub front : p.front ≤ length x

@@ -1,5 +1,5 @@
 -- How texts are packed. They take turns at three memories, as the terms of triples do. A text is its memory's last one, or
--- the last one that was another, or bytes of its own, or a front of the memory's anchor with bytes of its own after it.
+-- the last one that was another, or bytes of its own, or a prefix of the memory's anchor with bytes of its own after it.
 use Rattle.std.specs.Prelude.{ℕ, ◌==◌, if◌then◌else◌, List, [], ◌∷◌, ◌++◌, take, drop}
 
 -- what is remembered of texts: the last that was an anchor, the last one, and the last that was another one

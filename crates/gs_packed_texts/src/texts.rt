@@ -9,7 +9,7 @@ use crate::windows::{Span, Window};
 use std::alloc::{AllocError, Global};
 
 /// Texts of at most 65,535 bytes, in their order, which take turns at three memories. A text takes a
-/// byte where it is one of its memory's last two, and otherwise three and what it has after a front
+/// byte where it is one of its memory's last two, and otherwise three and what it has after a prefix
 /// of an earlier one.
 #[derive(Debug, Drop)]
 pub struct PackedTexts {

@@ -14,7 +14,7 @@ use std::alloc::Global;
 
 /// Triples in the order in which they came, with repeats: three texts for each, the subject's first. A
 /// term takes a byte where it is one of the last two at its place in a triple, and otherwise three and
-/// what it has after a front of an earlier one.
+/// what it has after a prefix of an earlier one.
 #[derive(Debug, Drop)]
 pub struct PackedTriples {
     texts: PackedTexts,

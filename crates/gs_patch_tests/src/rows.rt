@@ -44,7 +44,7 @@ fn number(column: Option<&str>) -> u128 {
         .unwrap_or_default()
 }
 
-/// Whether an update leaves just the triples wanted, and says so many.
+/// Whether an update leaves exactly the triples wanted, and says so many.
 fn leaves(
     alloc: Global,
     graph: &[Triple],

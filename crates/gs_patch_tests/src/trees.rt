@@ -26,7 +26,7 @@ fn is_key(dict: &Dict, key: Key, triple: &Triple) -> bool {
         && is_term(dict, key.object, triple.object())
 }
 
-/// Whether the tree has the keys of just these triples, which rise.
+/// Whether the tree has the keys of exactly these triples, which rise.
 fn has_just(
     alloc: Global,
     dict: &Dict,
@@ -65,7 +65,7 @@ fn patched(
     patch(alloc, dict, pool, merged.root, operations, 2)
 }
 
-/// Whether the update leaves just the triples wanted, and says so many, with a dictionary and a pool that
+/// Whether the update leaves exactly the triples wanted, and says so many, with a dictionary and a pool that
 /// are lent.
 fn is_left_in(
     alloc: Global,
@@ -86,7 +86,7 @@ fn is_left_in(
     has_just(alloc, dict, pool, draft.root, wanted)
 }
 
-/// Whether the update leaves just the triples wanted, which rise, of the graph of these triples, and
+/// Whether the update leaves exactly the triples wanted, which rise, of the graph of these triples, and
 /// says that so many came and so many went.
 pub fn is_left(
     alloc: Global,

@@ -64,7 +64,7 @@ KeysAreGiven s ks = AllKeys (IsGiven s.dict.now.terms) ks
 abbrev pub places_found : Found → List Place
 places_found f = run_places f.runs.items f.keys.items
 
--- the runs have just the keys, which are not too many; each run is of a record, and the numbers of the keys were given
+-- the runs have exactly the keys, which are not too many; each run is of a record, and the numbers of the keys were given
 pub record AreFound (s : Source) (most : ℕ) (f : Found) : Type 0 where
   pub whole : run_keys f.runs.items ≡ length f.keys.items
   pub kept : All (IsRecordRun s) f.runs.items

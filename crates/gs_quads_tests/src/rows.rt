@@ -35,7 +35,7 @@ const DEFAULT_ROWS: [(&str, u64, u32, &str); 4] = [
     ("far more lines than there are", 1, u32::MAX, "12."),
 ];
 
-/// A name that is the front of another, and of two more that stand after both: in a line it has its `>`,
+/// A name that is a prefix of another, and of two more that stand after both: in a line it has its `>`,
 /// which comes after `/`, and before `?` and `a`.
 const FRONTS: [(&str, Option<u64>); 5] = [
     ("http://e/ga", Some(1)),

@@ -61,7 +61,7 @@ abbrev pub HasTurned : Pins → Nodes → Nodes → ℕ → Bool → Type 0
 HasTurned v p q list true = AgreesAt q v list
 HasTurned v p q list false = (s : ℕ) × SettledList v p q s
 
--- One list followed its pin: no node, no mark and no room is another, what agreed agrees, and just what no seat's pin needs is looked at.
+-- One list followed its pin: no node, mark or room is another, what agreed agrees, and exactly what no seat's pin needs is looked at.
 pub record FollowsPin (v : Pins) (p q : Nodes) (list : ℕ) (done : Bool) : Type 0 where
   pub nodes : q.nodes ≡ p.nodes
   pub marks : q.marks ≡ p.marks

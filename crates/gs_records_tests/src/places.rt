@@ -1,4 +1,4 @@
-//! Graphs whose names are a front of another's, in the order of a walk.
+//! Graphs whose names are a prefix of another's, in the order of a walk.
 use crate::calls::{opens, puts, walks};
 use gs_model::Refusal;
 use gs_records::Records;

@@ -134,7 +134,7 @@ fn wanted(alloc: Global, left: &str) -> Result<String, AllocError> {
     format!(in alloc; "opened 1\nstaged\n204\nopened 2\n204\n200\n{lines}end\n")
 }
 
-/// Whether a patch with these patterns leaves just these triples of a graph, over each of two
+/// Whether a patch with these patterns leaves exactly these triples of a graph, over each of two
 /// stores.
 pub fn leaves(alloc: Global, graph: &str, removed: &str, left: &str) -> Result<bool, Refusal> {
     let want = wanted(alloc, left)?;

@@ -115,7 +115,7 @@ fn writer(alloc: Global, fails_at: usize, flush_fails: bool) -> BrokenWriter {
     }
 }
 
-/// Whether an input's run to such a writer ends with this status, and just this is taken.
+/// Whether an input's run to such a writer ends with this status, and exactly this is taken.
 fn takes(alloc: Global, input: &str, mut out: BrokenWriter, status: u8, want: &[u8]) -> bool {
     let mut reader = input.as_bytes();
     let mut err = Vec::new(alloc);
@@ -123,7 +123,7 @@ fn takes(alloc: Global, input: &str, mut out: BrokenWriter, status: u8, want: &[
     ended == status && out.taken.as_slice() == want
 }
 
-/// The first of these places at which a failed write does not end the run with just so many bytes.
+/// The first of these places at which a failed write does not end the run with exactly so many bytes.
 fn wrong_write(alloc: Global, places: &[usize]) -> Option<usize> {
     for place in places {
         let want = OUTPUT.as_bytes().get(..*place).unwrap_or_default();
@@ -166,7 +166,7 @@ fn a_failed_flush_ends_the_run(rt: HostRuntime) {
 }
 
 /// Whether a run that stops ends with status 1 where such a writer gets what is said of that: it
-/// takes just this.
+/// takes exactly this.
 fn says(alloc: Global, mut err: BrokenWriter, want: &[u8]) -> bool {
     let mut reader = STOPPED.as_bytes();
     let mut out = Vec::new(alloc);
@@ -174,7 +174,7 @@ fn says(alloc: Global, mut err: BrokenWriter, want: &[u8]) -> bool {
     status == 1 && out.as_slice() == b"200\n".as_slice() && err.taken.as_slice() == want
 }
 
-/// What is said of an early end is flushed too. The writer takes a front of it, or all of it.
+/// What is said of an early end is flushed too. The writer takes a prefix of it, or all of it.
 #[test]
 fn a_failed_flush_or_write_of_err_ends_the_run(rt: HostRuntime) {
     let alloc = rt.alloc();

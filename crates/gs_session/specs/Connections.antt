@@ -48,7 +48,7 @@ AsksRightly p x h = ArePointsOf p.base (requests p.base x) (asked_in Idle h) × 
 abbrev pub IsFinished : Server → Option (List ℕ) → List ℕ → Deeds → List ℕ → Type 0
 IsFinished p left x h w = (ended : Bool) × (ended ≡ true → IsAtEnd left) × SaysLast p ended x h w × AsksRightly p x h
 
--- what was written is a front of what is to be said
+-- what was written is a prefix of what is to be said
 abbrev pub Quit : Server → Option (List ℕ) → List ℕ → Deeds → List ℕ → Type 0
 Quit p left x h w = (ended : Bool) × (ended ≡ true → IsAtEnd left) × SaysFront p ended x h w × AsksRightly p x h
 

@@ -36,6 +36,6 @@ abbrev pub StoresAreLegal : Type 0
 StoresAreLegal = (seat : ℕ) (first last : Shown) (h : Deeds) (start : Start) (before : History) → IsLegal start before → first.view ≡ view_of start before
     → first.pinned ≡ pinned_of start before → Ran Steps seat first h last → HasRun start before (map (λ d. Seat seat d.0) h) (map (λ d. d.1) h) last
 
--- what was written is a front of what is to be said, at any moment
+-- what was written is a prefix of what is to be said, at any moment
 abbrev pub SaysFrontAlways : Type 0
 SaysFrontAlways = (s : Session) (x : List ℕ) (h : Deeds) (w : List ℕ) → Leads s x h w → SaysFront (server_of s.setup) s.ended x h w

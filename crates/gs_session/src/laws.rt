@@ -19,7 +19,7 @@ pub fn stores_are_legal()
     ensures { StoresAreLegal }
 {}
 
-/// At any moment, what was written is a front of what is to be said.
+/// At any moment, what was written is a prefix of what is to be said.
 pub fn fronts_at_any_time()
     ensures { SaysFrontAlways }
 {}

@@ -146,7 +146,7 @@ fn rounds<R: Read, W: Write, D: Door>(
 ///
 /// # Errors
 ///
-/// `Read`, `Write` or `NoMemory`, where that failed. What was written is then a front of what is to be
+/// `Read`, `Write` or `NoMemory`, where that failed. What was written is then a prefix of what is to be
 /// said, and what was open is cancelled.
 pub fn serve<R: Read, W: Write, D: Door>(
     alloc: Global,
@@ -162,7 +162,7 @@ pub fn serve<R: Read, W: Write, D: Door>(
     ensures whole { OnOk result (Connection D.Gives seat (R.remaining reader.old) (R.remaining reader.new)
         (W.contents writer.old) (W.contents writer.new) door.old door.new
         (IsFinished (record { base = base.now; piece = piece }) (R.remaining reader.new))) }
-    // What was written is a front of it.
+    // What was written is a prefix of it.
     ensures front { OnErr result (Connection D.Gives seat (R.remaining reader.old) (R.remaining reader.new)
         (W.contents writer.old) (W.contents writer.new) door.old door.new
         (Quit (record { base = base.now; piece = piece }) (R.remaining reader.new))) }

@@ -6,7 +6,7 @@ use gs_term::Triple;
 use std::alloc::Global;
 use std::test::Fail;
 
-/// Whether an upload has just these triples.
+/// Whether an upload has exactly these triples.
 fn has_just(alloc: Global, upload: &Upload, text: &str) -> Result<bool, Refusal> {
     let list = triples(alloc, text)?;
     let answer = upload.is_list(alloc, list.as_slice());
@@ -22,7 +22,7 @@ fn add(alloc: Global, upload: &mut Upload, text: &str) -> Result<Result<usize, R
     Ok(added)
 }
 
-/// Whether a list is refused, and the upload has just the triples that it had.
+/// Whether a list is refused, and the upload has exactly the triples that it had.
 fn is_refused(alloc: Global, upload: &mut Upload, list: &str, had: &str) -> Result<bool, Refusal> {
     let before = upload.nodes_in_use();
     let refused = add(alloc, upload, list)? == Err(Refusal::NoMemory);
@@ -30,7 +30,7 @@ fn is_refused(alloc: Global, upload: &mut Upload, list: &str, had: &str) -> Resu
     Ok(refused && same && upload.nodes_in_use() == before)
 }
 
-/// Whether a list adds so many, after which the upload has just these triples.
+/// Whether a list adds so many, after which the upload has exactly these triples.
 fn is_added(
     alloc: Global,
     upload: &mut Upload,

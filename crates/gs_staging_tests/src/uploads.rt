@@ -77,7 +77,7 @@ impl Upload {
         self.dict.len()
     }
 
-    /// Whether the tree has the keys of just these triples, which rise.
+    /// Whether the tree has the keys of exactly these triples, which rise.
     pub fn is_list(&self, alloc: Global, triples: &[Triple]) -> Result<bool, Refusal> {
         let mut keys = Vec::new(alloc);
         let most = triples.len().saturating_add(1);

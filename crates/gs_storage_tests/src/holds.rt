@@ -15,7 +15,7 @@ enum Step {
     HandOver(usize, usize),
     /// Two lists change places.
     Exchange(usize, usize),
-    /// Just these numbers come off the list of nodes that are looked at, a bit for each.
+    /// Exactly these numbers come off the list of nodes that are looked at, a bit for each.
     Gives(u64),
     /// Whether a node is retired still.
     Left(bool),

@@ -1,4 +1,4 @@
--- The requests of a stream, by the shortest fronts that settle them (RFC 9112, sections 2 to 7).
+-- The requests of a stream, by the shortest prefixes that settle them (RFC 9112, sections 2 to 7).
 use Rattle.std.specs.Prelude.{ℕ, zero, suc, true, cond, List, [], ◌∷◌, length, None}
 use Rattle.gs_transfer.specs.Cuts.{BodyCut, End, body_at}
 use Rattle.gs_transfer.specs.Cuts as body

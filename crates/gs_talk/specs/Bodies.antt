@@ -43,11 +43,11 @@ refusal_at base a (Uploads k) r body = fault_status (meaning_in (document_langua
 refusal_at base a (Patches t) r body = rejection_status (request_by (text_base base a.graph) r body).1
 refusal_at base a p r body = None
 
--- a meaning without a fault, of just these triples in their order
+-- a meaning without a fault, of exactly these triples in their order
 abbrev pub HasTriples : Meaning → List RdfTriple → Type 0
 HasTriples m ts = (m.1 ≡ Whole) × (ts ≡ all_stated m.0)
 
--- a document has no fault, and states just these triples
+-- a document has no fault, and states exactly these triples
 abbrev pub States : List ℕ → Asked → ℕ → List ℕ → List RdfTriple → Type 0
 States base a r body ts = HasTriples (meaning_in (document_language a.body) (text_base base a.graph) r body) ts
 

@@ -1,4 +1,4 @@
--- How far a connection has come: all that is to be said was said, or a front of it.
+-- How far a connection has come: all that is to be said was said, or a prefix of it.
 use Rattle.std.specs.Prelude.{◌≡◌, ◌⊎◌, ◌||◌, ℕ, Bool, true, false, not, List, [], ◌∷◌, ◌++◌}
 use Rattle.gs_verdict.specs.declared.verdicts.Asked.{Asked}
 use Rattle.gs_stream.specs.Requests.{Request, Waits}
@@ -35,6 +35,6 @@ SaysAll p ended x h w = (rest : List Request) × IsAtRest rest × ((k : Talk p e
 abbrev pub SaysLast : Server → Bool → List ℕ → Deeds → List ℕ → Type 0
 SaysLast p ended x h w = (k : Talk p ended x h w []) × ((ended ≡ true) ⊎ (is_closed k.log ≡ true))
 
--- what was written is a front of what was to be said
+-- what was written is a prefix of what was to be said
 abbrev pub SaysFront : Server → Bool → List ℕ → Deeds → List ℕ → Type 0
 SaysFront p ended x h w = (rest : List Request) × (left : List ℕ) × Talk p ended x h (w ++ left) rest

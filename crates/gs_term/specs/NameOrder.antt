@@ -1,4 +1,4 @@
--- The order of names tells apart just what differs: the law that its `impl`s cite.
+-- The order of names tells apart exactly what differs: the law that its `impl`s cite.
 use Rattle.std.specs.Prelude.{◌≡◌, ℕ, List, [], ◌∷◌, ◌++◌}
 use Rattle.std.specs.Str.{bytes_eq}
 use Rattle.std.specs.Ordering.{eq_by_cmp}

@@ -178,7 +178,7 @@ fn triples_before(alloc: Global, language: Language, row: &Row) -> Result<usize,
     Ok(count)
 }
 
-/// The first row of which that is no document of just its statements.
+/// The first row of which that is no document of exactly its statements.
 fn wrong_front(alloc: Global, rows: &[Row]) -> Result<Option<&'static str>, Fail> {
     for row in rows {
         let turtle = triples_before(alloc, Language::Turtle, row)?;

@@ -62,7 +62,7 @@ const KINDS: [TokenKind; 10] = [
     TokenKind::A,
 ];
 
-/// Whether tokens have just these kinds.
+/// Whether tokens have exactly these kinds.
 fn have_kinds(tokens: &[Token], kinds: &[TokenKind]) -> bool {
     for (token, kind) in tokens.iter().zip(kinds) {
         if token.kind != *kind {

@@ -56,7 +56,7 @@ pub fn number(
     made_literal(alloc, text, datatype.iri())
 }
 
-/// What stands after the front of a text.
+/// What stands after the prefix of a text.
 pub fn after<'a>(text: &'a str, front: &str) -> Option<&'a str>
     ensures { option_copied result ≡ rest_after front.now text.now }
 {

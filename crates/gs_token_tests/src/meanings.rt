@@ -135,7 +135,7 @@ fn read(form: Form, text: &[u8], left: &mut String) -> Result<(), Refusal> {
     }
 }
 
-/// Whether a call leaves the meaning after what stood there, and where there is none just that.
+/// Whether a call leaves the meaning after what stood there, and where there is none only that.
 fn is_left(reported: Result<(), Refusal>, left: &str, wanted: Option<&str>) -> bool {
     match wanted {
         Some(meaning) => reported == Ok(()) && left.strip_prefix("\u{e9}") == Some(meaning),

@@ -183,7 +183,7 @@ impl Transfer {
     }
 
     /// What the next bytes are. They are to begin where the part before ended. After a fault the
-    /// transfer is of no more use. Linear in the bytes, but that a size line's front, of at most 255
+    /// transfer is of no more use. Linear in the bytes, but that a size line's prefix, of at most 255
     /// bytes, is looked at again with each piece that does not end it.
     pub fn next(&mut self, bytes: &[u8]) -> Part
         ensures { Parts self.old self.new bytes.now result }

@@ -45,7 +45,7 @@ fn walk(
     Ok(false)
 }
 
-/// Whether a root's tree has just these numbers.
+/// Whether a root's tree has exactly these numbers.
 fn has_numbers(
     alloc: Global,
     set: &NumberSet,

@@ -43,7 +43,7 @@ fn are_numbers(keys: &[Key], start: Start, total: usize) -> bool {
     keys.len() == total
 }
 
-/// Whether the set says of each number that it has it just where it had it, or the run has it.
+/// Whether the set says of each number that it has it exactly where it had it, or the run has it.
 fn says_so(set: &NumberSet, start: Start) -> bool {
     for number in 0..NUMBERS {
         if set.contains(number) != (has(start, number) || in_run(number)) {

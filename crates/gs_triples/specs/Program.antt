@@ -61,12 +61,12 @@ module _ {Value Triple : Type 0} where
   CoversTriples env n ts (Err e) = Unit {0}
   CoversTriples env n ts (Ok r) = (front : List Symbol) × (ts ≡ front ++ r.rest) × AreTriples env n front r.triples r.numbers
 
-  -- whatever the rules say of a front of some tokens, the program reads there, where its triples may end
+  -- whatever the rules say of a prefix of some tokens, the program reads there, where its triples may end
   abbrev pub ReadsByRules : Context Value Triple → Type 0
   ReadsByRules env =
       (n k : Numbers) (xs rest : List Symbol) (T : List Triple)
       → AreTriples env n xs T k → EndsVerbs rest → ReadsTriples env n (xs ++ rest) T k rest
 
-  -- whatever the program reads of some tokens, the rules say of a front of them
+  -- whatever the program reads of some tokens, the rules say of a prefix of them
   abbrev pub CoversReadings : Context Value Triple → Type 0
   CoversReadings env = (n : Numbers) (ts : List Symbol) → CoversTriples env n ts (triples_at env n ts)

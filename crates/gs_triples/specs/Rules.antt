@@ -1,4 +1,4 @@
--- The rules of Turtle below a statement (25 February 2014, section 6.5), each with just the tokens that it spans.
+-- The rules of Turtle below a statement (25 February 2014, section 6.5), each with exactly the tokens that it spans.
 use Rattle.std.specs.Prelude.{◌≡◌, ℕ, suc, true, List, [], ◌∷◌, ◌++◌, codes, Ok}
 use Rattle.gs_model.specs.Terms.{Term}
 use Rattle.gs_blank.specs.Numbers.{Numbers, one_more}

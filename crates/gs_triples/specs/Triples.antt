@@ -1,4 +1,4 @@
--- Turtle's triples, from their subject on (25 February 2014, section 6.5), with just the tokens that they span.
+-- Turtle's triples, from their subject on (25 February 2014, section 6.5), with exactly the tokens that they span.
 use Rattle.std.specs.Prelude.{◌≡◌, true, List, [], ◌∷◌, ◌++◌, Ok}
 use Rattle.gs_blank.specs.Numbers.{Numbers, one_more}
 use Rattle.gs_triples.specs.Symbols.{TermToken, Symbol, ATerm, At, Carets, A, Open, Close, OpenList, Semicolon, Comma}

@@ -4,13 +4,13 @@ ghost use Rattle.gs_triples.specs.Meanings.{Context};
 ghost use Rattle.gs_triples.specs.Program.{ReadsByRules, CoversReadings};
 ghost use Rattle.gs_triples.specs.Runs.{RunsAsProgram};
 
-/// What the rules say of a front of the tokens, the program reads there, where something stands
+/// What the rules say of a prefix of the tokens, the program reads there, where something stands
 /// after it at which triples may end.
 pub fn triples_are_read<Value, Triple>()
     ensures { (env : Context Value Triple) → ReadsByRules env }
 {}
 
-/// What the program reads of a list of tokens is what the rules say of a front of it.
+/// What the program reads of a list of tokens is what the rules say of a prefix of it.
 pub fn triples_are_covered<Value, Triple>()
     ensures { (env : Context Value Triple) → CoversReadings env }
 {}

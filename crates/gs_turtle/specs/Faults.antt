@@ -20,7 +20,7 @@ bytes_before x lexer.AtEnd = length x
 bytes_before x (lexer.AtFault n) = n
 
 -- The text x is no body with these statements. It is cut into tokens, up to its first place where none begins or to its
--- end, and the longest front of them that is whole statements has these. The last token of that front ends where the last
+-- end, and the longest prefix of them that is whole statements has these. The last token of that prefix ends where the last
 -- statement does, before every token after it, and before that place.
 pub record IsFaultyAfter (b : List ℕ) (r : ℕ) (x : List ℕ) (statements : List Statement) : Type 0 where
   pub front : List Lexeme

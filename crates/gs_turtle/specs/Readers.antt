@@ -44,7 +44,7 @@ pub record PieceLeadsOn (old new : TurtleReader) (piece : List ℕ) (before afte
   pub grown : after ≡ before ++ given
   pub leads : (x : List ℕ) (ts : List RdfTriple) → IsLedBy old x ts → IsLedBy new (x ++ piece) (ts ++ given)
 
--- and those of all complete statements are given, of the longest front of the text so far that ends between two characters
+-- and those of all complete statements are given, of the longest prefix of the text so far that ends between two characters
 pub record Reads (old new : TurtleReader) (piece : List ℕ) (before after : List RdfTriple) : Type 0 where
   pub goes : PieceLeadsOn old new piece before after
   pub settled : (x : List ℕ) (ts : List RdfTriple) → IsLedBy old x ts → (front : List ℕ) → IsLongestFront (x ++ piece) front

@@ -11,7 +11,7 @@ pub fn body_is_read()
 {}
 
 /// A text has a fault, of its tokens or of the grammar, and says these statements before it, exactly
-/// where it is no body and these are the statements of the longest front of its tokens that is
+/// where it is no body and these are the statements of the longest prefix of its tokens that is
 /// whole statements. A fault of the grammar is placed where the last of these ends.
 pub fn faulty_body_is_read()
     ensures front { (b x : List ℕ) (r : ℕ) (S : List Statement) → (SaysUpTo b r x S ↔ IsFaultyAfter b r x S) }

@@ -1,4 +1,4 @@
--- The rules of updates (SPARQL 1.1 Query, 21 March 2013, section 19.8), as far as they are served, each with just the
+-- The rules of updates (SPARQL 1.1 Query, 21 March 2013, section 19.8), as far as they are served, each with exactly the
 -- tokens that it spans.
 use Rattle.std.specs.Prelude.{◌≡◌, ℕ, ◌≤◌, false, List, [], ◌∷◌, ◌++◌, length, Some}
 use Rattle.std.specs.List.{list_any}

@@ -1,4 +1,4 @@
--- Read in this order: what a request says, the languages of its operations, the rules of the grammar, the longest front
+-- Read in this order: what a request says, the languages of its operations, the rules of the grammar, the longest prefix
 -- that they take, what is not served, the machine that reads by the rules, first within a block, what the laws say of it,
 -- and what a text says.
 pub mod Requests

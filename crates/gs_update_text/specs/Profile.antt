@@ -51,7 +51,7 @@ module _ {Value Triple : Type 0} where
     more : {n k l : Numbers} {xs ys : List Symbol} {T U : List Triple} (e : ℕ) → AreTriples env n xs T k
         → AreDotted env k ys U l → AreDotted env n (xs ++ Dot e ∷ ys) (T ++ U) l
 
--- a front of an update with these operations, after which an operation is expected
+-- a prefix of an update with these operations, after which an operation is expected
 pub data Expects : Scope → Numbers → List Symbol → List Written → Scope → Numbers → Type 0 where
   first : {env next : Scope} {n : Numbers} {xs : List Symbol} → IsPrologue env xs next → Expects env n xs [] next n
   later : {env next last : Scope} {n k l : Numbers} {xs ys zs : List Symbol} {o : Written} {os : List Written} → IsPrologue env xs next

@@ -39,7 +39,7 @@ pub record LeavesText (b : List ℕ) (r : ℕ) (x : List ℕ) (operations : List
   pub cut : IsCut true x lexemes ending
   pub leaves : LeavesProfile b r lexemes operations
 
--- The text x is no update, and does not leave what is served. The longest front of its tokens that is an update has these
+-- The text x is no update, and does not leave what is served. The longest prefix of its tokens that is an update has these
 -- operations.
 pub record IsBrokenAfter (b : List ℕ) (r : ℕ) (x : List ℕ) (operations : List Written) : Type 0 where
   pub lexemes : List Lexeme
@@ -50,7 +50,7 @@ pub record IsBrokenAfter (b : List ℕ) (r : ℕ) (x : List ℕ) (operations : L
   pub served : (os : List Written) → LeavesText b r x os → ⊥
 
 -- The text breaks the grammar after so many bytes: where the last operation before its fault ends, with the last closing
--- brace of that front, or at 0.
+-- brace of that prefix, or at 0.
 pub record BreaksUpdate (b : List ℕ) (r : ℕ) (x : List ℕ) (at : ℕ) : Type 0 where
   pub operations : List Written
   pub before : IsBrokenAfter b r x operations

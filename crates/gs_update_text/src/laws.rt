@@ -22,9 +22,9 @@ pub fn departure_is_refused()
     ensures apart { (base : List ℕ) (request : ℕ) (ts : List Lexeme) → KeepsApart base request ts }
 {}
 
-/// The operations that the machine says are those of the longest front of the tokens that is an
+/// The operations that the machine says are those of the longest prefix of the tokens that is an
 /// update by the rules: all, or those before the first departure. A broken text's fault is placed at
-/// the end of the last of them, where the last closing brace of that front ends.
+/// the end of the last of them, where the last closing brace of that prefix ends.
 pub fn departure_ends_the_longest_front()
     ensures front { (base : List ℕ) (request : ℕ) (ts : List Lexeme) → SaysLongest base request ts }
     ensures place { (base : List ℕ) (request : ℕ) (ts : List Lexeme) → PlacesUpdateFault base request ts }
@@ -46,7 +46,7 @@ pub fn departing_text_is_refused()
 
 /// A text is broken, in its tokens or in the grammar, and says these operations before the fault,
 /// exactly where it is no update and does not leave what is served, and these are the operations
-/// of the longest front of its tokens that is an update. A fault of the grammar is placed where the
+/// of the longest prefix of its tokens that is an update. A fault of the grammar is placed where the
 /// last of these ends.
 pub fn broken_text_is_refused()
     ensures front { (b x : List ℕ) (r : ℕ) (os : List Written)

@@ -29,7 +29,7 @@ pub record IsFedReading {R : Type 0} (meaning_of : R → List ℕ → Meaning) (
   pub begun : (y : List ℕ) → Begins (all_stated (means (x ++ y)).0) ts
   pub stands : ReaderStands meaning_of Leads closed k.fault k.reader means x ts
 
--- Just the triples of the complete statements are given: of the longest front of x that ends between two characters,
+-- Exactly the triples of the complete statements are given: of the longest prefix of x that ends between two characters,
 -- all that it means however it goes on.
 abbrev pub GivesComplete : (List ℕ → Meaning) → List ℕ → List RdfTriple → Type 0
 GivesComplete means x ts = (front : List ℕ) → IsLongestFront x front → AreSettled (λ z. all_stated (means z).0) front ts
@@ -66,13 +66,13 @@ pub record IsFedBy {R : Type 0} (meaning_of : R → List ℕ → Meaning) (Leads
   pub fresh : IsFedReading meaning_of Leads closed first means [] []
   pub each : FeedsEach meaning_of Leads closed first k pieces [] ts
 
--- the text in pieces of just n bytes, of which the last may be shorter; 0 is whole
+-- the text in pieces of exactly n bytes, of which the last may be shorter; 0 is whole
 abbrev pub ArePieces : ℕ → List ℕ → List (List ℕ) → Type 0
 ArePieces n x [] = ⊥
 ArePieces n x (p ∷ []) = (p ≡ x) × (0 < n → length x ≤ n)
 ArePieces n x (p ∷ q ∷ ps) = (0 < n) × (n < length x) × (p ≡ take n x) × ArePieces n (drop n x) (q ∷ ps)
 
--- the text was fed in pieces of just n bytes, one after another
+-- the text was fed in pieces of exactly n bytes, one after another
 abbrev pub FeedsPieces : {R : Type 0} → (R → List ℕ → Meaning) → (R → List ℕ → List RdfTriple → Type 0) → (R → Bool)
     → ℕ → Reading R → Reading R → List ℕ → List RdfTriple → List RdfTriple → Type 0
 FeedsPieces meaning_of Leads closed n old new text before after = (pieces : List (List ℕ)) × ArePieces n text pieces

@@ -5,7 +5,7 @@ use Rattle.gs_event.specs.declared.answers.Answer.{Answer}
 use Rattle.gs_talk.specs.Logs.{Server}
 use Rattle.gs_session.specs.Connections.{Connection, IsFinished, Quit}
 
--- A connection: all that is to be said was written, or a front of it, and what is open was cancelled.
+-- A connection: all that is to be said was written, or a prefix of it, and what is open was cancelled.
 abbrev pub Attends : {D : Type 0} → Server → (D → Event → Answer → D → Type 0) → ℕ → (unread left held holds : Option (List ℕ)) → (old new : D) → Type 0
 Attends p gives seat unread left held holds old new =
     Connection gives seat unread left held holds old new (IsFinished p left) ⊎ Connection gives seat unread left held holds old new (Quit p left)

@@ -18,6 +18,6 @@ IsPromised p seat made first = IsFreshOf seat first × (made ≡ p)
 abbrev pub WasServed : Server → ℕ → Record → Type 0
 WasServed p seat last = (first : Record) × IsFreshOf seat first × ServedOn p first last
 
--- the first so many of these were told just that, each as the pass of its own seat
+-- the first so many of these were told exactly that, each as the pass of its own seat
 abbrev pub WereServed : Server → ℕ → List Record → Type 0
 WereServed p n records = From (WasServed p) 0 (take n records)

@@ -29,7 +29,7 @@ pub record LeadsToSession (p : Server) (seat : ℕ) (i : Input) (h : Deeds) (w :
   pub seat_is : s.setup.seat ≡ seat
   pub live : i.is_dropped ≡ false
 
--- the connection was given up: what was written is a front of what was to be said, and its seat was left idle
+-- the connection was given up: what was written is a prefix of what was to be said, and its seat was left idle
 pub record HasLeft (p : Server) (seat : ℕ) (i : Input) (h : Deeds) (w : List ℕ) : Type 0 where
   pub front : SaysFront p i.ended i.bytes h w
   pub idle : AreOfKind seat h → IsIdle h
@@ -69,7 +69,7 @@ written_on w c = text_written (slice_get w.connections.items c)
 
 -- What came to one of many connections (i), what was done at its seat (h) and what was written on it (w) go together.
 pub record IsServed (p : Server) (i : Input) (h : Deeds) (w : List ℕ) : Type 0 where
-  -- what was written is a front of what is to be said
+  -- what was written is a prefix of what is to be said
   pub front : SaysFront p i.ended i.bytes h w
   -- what the abstract store was asked is what the requests ask, in their order
   pub points : ArePointsOf p.base (requests p.base i.bytes) (asked_in Idle h)

@@ -133,8 +133,8 @@ impl World {
 
     /// Takes these steps, one after another. A step for a connection that is not there does nothing. In
     /// any order of the steps, all events and their answers are one legal history of the store, and each
-    /// connection is served as if it were the only one: what was written on it is a front of what is to be said
-    /// to its bytes.
+    /// connection is served as if it were the only one: what was written on it is a prefix of what is to be
+    /// said to its bytes.
     ///
     /// # Errors
     ///
