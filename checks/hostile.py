@@ -452,7 +452,8 @@ def put_again(client, request, many, batch=100):
 
 
 def empty_puts(program, rounds, warm=70_000, many=100_000, wanted=4_000_000):
-    """How much memory PUTs of an empty graph take, none of which leaves a node; the first fill the page of what was asked."""
+    """How much memory PUTs of an empty graph take, each of which leaves a record to be freed; the first fill the page of what was
+    asked."""
     grown = []
     for _ in range(rounds):
         with Server(program) as server:

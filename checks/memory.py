@@ -95,8 +95,8 @@ def read_text(language, text, target, request):
 
 
 class Nodes:
-    """What is known of the nodes in use: how many at least and at most, and, where each commit so far gave a graph a tree of
-    its own, the commits that made and ended each node that no graph and no upload has. Of other commits only bounds are known."""
+    """What is known of the nodes and records in use: how many at least and at most, and, where each commit so far gave a graph a
+    tree of its own, the commits that made and ended each that no graph and no open seat has. Of other commits only bounds are known."""
 
     def __init__(self):
         self.low = self.high = 0
@@ -111,13 +111,17 @@ class Nodes:
         self.grow(new, new)
         self.births.setdefault(seat, set()).add(commit + 1)
 
+    def open(self):
+        """An upload or a patch takes a record."""
+        self.grow(1, 1)
+
     def put(self, seat, replaced, birth, commit):
-        """The nodes of a graph end by this commit, and those of the upload were made for it, or for one before."""
+        """The nodes and the record of a graph end by this commit, and the nodes of the upload were made for it, or for one before."""
         self.is_exact &= self.births.pop(seat, {commit}) == {commit}
         self.ended += [(birth, commit)] * replaced
 
     def drop(self, seat, count):
-        """An upload of so many triples is given up."""
+        """So many nodes and records of a seat are left that no version reached."""
         self.births.pop(seat, None)
         self.ended += [(0, 0)] * count
 
@@ -129,7 +133,7 @@ class Nodes:
         self.grow(-staged, MOST_FOR_TRIPLE * triples)
 
     def show(self, line, least, triples):
-        """The line of the counts, where there are at least so many nodes, and just so many triples."""
+        """The line of the counts, where there are at least so many nodes and records, and just so many triples."""
         words = re.fullmatch(r"nodes (\d+) triples (\d+)", line)
         assert words and int(words[2]) == triples, f"{line}, not {triples} triples"
         shown = int(words[1])
@@ -138,7 +142,7 @@ class Nodes:
         self.low = self.high = shown
 
     def reclaim(self, line, most, least, pins):
-        """The line of a reclaim of so many nodes, where there are at least so many, and reads have these pins."""
+        """The line of a reclaim of so many nodes and records, where there are at least so many, and reads have these pins."""
         words = re.fullmatch(r"reclaimed (\d+) (more|done)", line)
         assert words, line
         freed, low, high = int(words[1]), max(0, self.low - least), self.high - least
@@ -169,9 +173,18 @@ class Store:
     def triples(self):
         return sum(len(it) for it in self.graphs.values())
 
+    def has_record(self, target):
+        """Whether a record is kept of a graph: none of a missing one, nor of an empty default graph."""
+        return target in self.graphs and (target != "default" or bool(self.graphs[target]))
+
+    def kept(self, target):
+        """The nodes and the record of a graph."""
+        return len(self.graphs.get(target, ())) + self.has_record(target)
+
     def least(self):
-        """A node for each triple of a graph or an open upload."""
-        return self.triples() + sum(len(it[4]) for it in self.phases.values() if it[0] == "writing")
+        """The nodes and records of all graphs and of all seats: a node for each triple, and a record for each upload and patch."""
+        opened = sum(1 + (len(it[4]) if it[0] == "writing" else 0) for it in self.phases.values() if it[0] in ("writing", "patching"))
+        return sum(self.kept(it) for it in self.graphs) + opened
 
     def pins(self):
         return [it[2] for it in self.phases.values() if it[0] == "reading"]
@@ -186,9 +199,18 @@ class Store:
         """What the seat has open is given up."""
         phase = self.phases.get(seat, ("idle",))
         if phase[0] == "writing":
-            self.nodes.drop(seat, len(phase[4]))
+            self.nodes.drop(seat, len(phase[4]) + 1)
+        if phase[0] == "patching":
+            self.nodes.drop(seat, 1)
         self.phases[seat] = ("idle",)
         self.fed.pop(seat, None)
+
+    def write(self, target, graph):
+        """The graph that a write leaves; its record is not used where the default graph is empty then."""
+        self.births[target] = self.commit
+        self.graphs[target] = graph
+        if not self.has_record(target):
+            self.nodes.drop(None, 1)
 
     def may_want_memory(self, seat, words):
         phase = self.phases.get(seat, ("idle",))
@@ -241,11 +263,10 @@ class Store:
         status = "204" if target in self.graphs else "201"
         self.commit += 1
         if kind == "put":
-            self.nodes.put(seat, len(self.graphs.get(target, ())), self.births.get(target, 0), self.commit)
+            self.nodes.put(seat, self.kept(target), self.births.get(target, 0), self.commit)
         else:
             self.nodes.copy(seat, len(upload), len(upload) if kind == "post" else 0)
-        self.births[target] = self.commit
-        self.graphs[target] = upload | self.graphs.get(target, set()) if kind == "post" else upload
+        self.write(target, upload | self.graphs.get(target, set()) if kind == "post" else upload)
         return f"{status} {target[1:-1]}" if kind == "new" else status
 
     def patch(self, seat, text):
@@ -254,18 +275,17 @@ class Store:
         done = operations(text, target[1:-1] if target.startswith("<") else "http://localhost/store", request)
         if isinstance(done, list) and target in self.graphs and self.commit == LAST_NUMBER:
             return "refused LastNumber"
+        if not isinstance(done, list) or target not in self.graphs:
+            self.end(seat)
+            return "404" if isinstance(done, list) else done
         self.phases[seat] = ("idle",)
-        if not isinstance(done, list):
-            return done
-        if target not in self.graphs:
-            return "404"
         self.commit += 1
-        changed = 0
+        changed, graph = 0, self.graphs[target]
         for operation in done:
-            before = self.graphs[target]
-            self.graphs[target] = patched(before, [operation])
-            changed += len(before ^ self.graphs[target])
+            before, graph = graph, patched(graph, [operation])
+            changed += len(before ^ graph)
         self.nodes.copy(seat, changed)
+        self.write(target, graph)
         return "204"
 
     def delete(self, target):
@@ -274,7 +294,7 @@ class Store:
         if self.commit == LAST_NUMBER:
             return "refused LastNumber"
         self.commit += 1
-        self.nodes.put(None, len(self.graphs[target]), self.births.get(target, 0), self.commit)
+        self.nodes.put(None, self.kept(target), self.births.get(target, 0), self.commit)
         self.births[target] = self.commit
         if target == "default":
             self.graphs[target] = set()
@@ -295,6 +315,7 @@ class Store:
             if self.request == LAST_NUMBER:
                 return ["refused LastNumber"]
             self.request += 1
+            self.nodes.open()
             if words[2] == "patch":
                 self.phases[seat] = ("patching", words[3], self.request)
                 return [f"opened {self.request}"]

@@ -21,6 +21,9 @@ SERVING, WRITING = "gs_session/src/serving.rt", "gs_session/src/writing.rt"
 LINES, WORKERS = "gs_workers/src/lines.rt", "gs_workers/src/workers.rt"
 BIRTH = "let birth = books.versions.commit() + 1;\n    let merged"
 FIRST_BIRTH = "match upload.root { Some(root) => books.pool.get(root).birth, None => books.versions.commit() + 1 }"
+FREES_NODES, FREES_RECORDS = "reclaim(&mut self.books.pool, &self.books.versions, ", "self.books.records.reclaim(&self.books.versions, "
+NODES_FIRST = f"let nodes = {FREES_NODES}count);\n        let left = count - nodes.freed;\n        let records = {FREES_RECORDS}left);"
+RECORDS_FIRST = f"let records = {FREES_RECORDS}count);\n        let left = count - records.freed;\n        let nodes = {FREES_NODES}left);"
 OF_DEFAULT = "gs_event::Action::Pin(gs_term::Target::Default)"
 LOCKED = "let asked = EventAsk::by(&event);\n        self.lock"
 
@@ -108,6 +111,9 @@ PLANTS = [
     ("what a patch copies is born a commit earlier", "gs_tree_store/src/patches.rt",
      "let birth = books.versions.commit() + 1;", "let birth = books.versions.commit();",
      [("gs_schedule_tests", "worked_patches_print_what_they_must")]),
+    ("records are freed before nodes", "gs_tree_store/src/stores.rt",
+     NODES_FIRST, RECORDS_FIRST,
+     [("gs_store_schedules", "")]),
 ]
 
 

@@ -6,7 +6,7 @@ use gs_version_models::{Growth, Said, answer_words, is_said, is_same, said_words
 /// What a store counts.
 #[derive(Clone, Copy, Drop)]
 pub struct Counts {
-    /// Nodes in use.
+    /// Nodes and records in use.
     pub nodes: u64,
     /// Triples of the current graphs.
     pub triples: u64,
@@ -21,7 +21,7 @@ pub struct Effect {
 }
 
 impl Effect {
-    /// As many nodes are in use as may be after this.
+    /// As many nodes and records are in use as may be after this.
     pub fn check_growth(&self, moment: Moment, growth: Growth) -> Result<(), Stop> {
         let before = self.before.nodes;
         let after = self.after.nodes;
@@ -40,8 +40,8 @@ impl Effect {
         }
     }
 
-    /// How many nodes a Reclaim freed, which are exactly those that are no more in use, and whether waste is
-    /// left.
+    /// How many nodes and records a Reclaim freed, which are exactly those that are no more in use, and whether
+    /// waste is left.
     pub fn freed(&self, moment: Moment) -> Result<(u64, bool), Stop> {
         let Answer::Reclaimed(freed, left) = self.answer else {
             let got = answer_words(moment.alloc, &self.answer)?;
@@ -61,7 +61,8 @@ pub struct Effects {
 }
 
 impl Effects {
-    /// Nodes that were in use before the event, beyond those of graphs and open uploads.
+    /// Nodes and records that were in use before the event, beyond those of graphs and of open uploads and
+    /// patches.
     pub fn waste_before(&self) -> u64 {
         let judged = self.judged.before.nodes;
         judged.saturating_sub(self.plain.before.nodes)

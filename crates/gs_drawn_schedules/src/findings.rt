@@ -12,13 +12,13 @@ pub enum Kind {
     Answer,
     /// The triples of all graphs are otherwise in number.
     Triples,
-    /// The plain store counts other triples of graphs and open uploads.
+    /// The plain store counts other nodes and records of graphs and of open uploads and patches.
     PlainNodes,
-    /// There are fewer nodes than triples of graphs and open uploads.
+    /// There are fewer nodes and records than graphs and open uploads and patches have.
     FewNodes,
-    /// The nodes did not grow as they may.
+    /// Nodes and records did not grow as they may.
     Growth,
-    /// A Reclaim answers something else, frees too many, or other nodes are in use then.
+    /// A Reclaim answers something else, frees too many, or others are in use then.
     Freed,
     /// It says wrongly whether waste is left.
     Left,
@@ -36,8 +36,8 @@ impl Kind {
             Kind::PlainAnswer => "the answer is not that of the plain store",
             Kind::Answer => "the answer is otherwise",
             Kind::Triples => "other triples of graphs",
-            Kind::PlainNodes => "other triples of graphs and uploads",
-            Kind::FewNodes => "fewer nodes than triples",
+            Kind::PlainNodes => "other nodes of graphs and uploads",
+            Kind::FewNodes => "fewer nodes than graphs and uploads have",
             Kind::Growth => "other nodes in use",
             Kind::Freed => "other nodes freed",
             Kind::Left => "waste is left, or none is",

@@ -5,7 +5,7 @@ use crate::scripts::seats;
 use crate::totals::Totals;
 use gs_drawn_events::{Ask, SORT_NAMES, sort_of};
 use gs_event::Limits;
-use gs_version_models::{Growth, Lie, Model, Outcome, Said};
+use gs_version_models::{Lie, Model};
 use std::alloc::Global;
 
 /// What is known of the store that is judged.
@@ -13,21 +13,13 @@ use std::alloc::Global;
 pub struct Judge {
     alloc: Global,
     pub model: Model,
-    /// Each commit gives a graph a tree of its own, so the model knows how many nodes can be freed.
+    /// Each commit gives a graph a tree of its own, so the model knows how many nodes and records can be
+    /// freed.
     is_exact: bool,
     /// The number of the event at hand.
     pub step: usize,
-    /// At least so many nodes are needed by no pinned version.
+    /// At least so many nodes and records of the waste are needed by no pinned version.
     sure: u64,
-}
-
-/// How many staged nodes become waste with this answer; a POST that is not stored gives its own back.
-fn dropped(staged: u64, outcome: &Outcome) -> u64 {
-    match (outcome.said, outcome.growth) {
-        (_, Growth::Fewer(_)) => 0,
-        (Said::Cancelled | Said::Status(507), _) => staged,
-        _ => 0,
-    }
 }
 
 impl Judge {
@@ -61,21 +53,20 @@ impl Judge {
     ) -> Result<(), Stop> {
         let name = SORT_NAMES.get(sort_of(ask)).copied().unwrap_or_default();
         let moment = self.moment(seat, name);
-        let staged = self.model.staged(seat);
         let is_stale = self.model.is_stale(seat);
         let outcome = self.model.step(seat, ask)?;
         effects.check_answers(moment, &outcome.said)?;
         totals.note(ask, &outcome.said, is_stale);
         effects.judged.check_growth(moment, outcome.growth)?;
         self.check_counts(moment, effects)?;
-        self.note_waste(effects.waste(), dropped(staged, &outcome));
+        self.note_waste(effects.waste(), outcome.unreached);
         Ok(())
     }
 
-    /// So many nodes are waste, and so many were given up.
-    fn note_waste(&mut self, waste: u64, given_up: u64) {
+    /// So many nodes and records are waste, and so many of them are new and reached no version.
+    fn note_waste(&mut self, waste: u64, unreached: u64) {
         self.sure = if self.model.has_pin() {
-            self.sure.saturating_add(given_up)
+            self.sure.saturating_add(unreached)
         } else {
             waste
         };
@@ -91,7 +82,7 @@ impl Judge {
         moment.no_less(Kind::FewNodes, nodes, plain.nodes)
     }
 
-    /// A Reclaim might free so many nodes.
+    /// A Reclaim might free so many nodes and records.
     pub fn reclaim(
         &mut self,
         most: u64,
@@ -123,7 +114,7 @@ impl Judge {
     }
 
     /// A Reclaim has freed all that it may, which is all waste where there is no pin. In an exact schedule
-    /// it is known how many nodes these are.
+    /// it is known how many nodes and records these are.
     fn check_freed(
         &mut self,
         moment: Moment,
@@ -142,11 +133,11 @@ impl Judge {
         Ok(())
     }
 
-    /// All seats are cancelled, and all waste was freed: a node is left for each triple.
+    /// All seats are cancelled, and all waste was freed: a node is left for each triple, and the records of
+    /// graphs.
     pub fn finish(&mut self, effects: &Effects, totals: &mut Totals) -> Result<(), Stop> {
         let moment = self.moment(seats(), "the last Reclaim");
         self.reclaim_at(moment, u64::MAX, effects, totals)?;
-        let Counts { nodes, triples } = effects.judged.after;
-        moment.same_numbers(Kind::Waste, nodes, triples)
+        moment.same_numbers(Kind::Waste, effects.judged.after.nodes, self.model.nodes())
     }
 }

@@ -12,7 +12,7 @@ use std::alloc::Global;
 /// The events of a schedule, the Reclaims after them and what ends it aside.
 const EVENTS: usize = 300;
 
-/// How many nodes the Reclaim after each event may free.
+/// How many nodes and records the Reclaim after each event may free.
 const FEW: u64 = 3;
 
 /// A store that takes events.
@@ -76,7 +76,7 @@ impl Play {
         self.judge.take(seat, ask, &effects, totals)
     }
 
-    /// An event, and a few nodes are freed.
+    /// An event, and a few nodes and records are freed.
     fn step<S: Subject, P: Subject>(
         &mut self,
         store: &mut S,

@@ -25,7 +25,7 @@ pub struct Totals {
     held: u64,
     /// The same, in exact schedules.
     held_exact: u64,
-    /// Reclaims in exact schedules that freed nodes.
+    /// Reclaims in exact schedules that freed some.
     freed_exact: u64,
 }
 
@@ -105,7 +105,7 @@ impl Totals {
         )?;
         writeln!(
             out,
-            "{} reclaims freed {} nodes; pins kept {} of them from more",
+            "{} reclaims freed {} nodes and records; pins kept {} of them from more",
             self.reclaims, self.freed, self.held,
         )?;
         writeln!(

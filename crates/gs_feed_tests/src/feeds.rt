@@ -51,7 +51,7 @@ const FEEDS: [Row; 20] = [
     (
         "what is fed is staged at once, and once",
         "0 open put default\n0 feed nt <http://e/s> <http://e/p> \"1\" .\ncounts\n0 feed nt <http://e/s> <http://e/p> \"2\" . # two\ncounts\n0 feed nt <http://e/s> <http://e/p> \"1\" .\ncounts\n0 commit\ncounts\n",
-        "opened 1\nfed\nnodes 1 triples 0\nfed\nnodes 2 triples 0\nfed\nnodes 2 triples 0\n204\nnodes 2 triples 2\n",
+        "opened 1\nfed\nnodes 2 triples 0\nfed\nnodes 3 triples 0\nfed\nnodes 3 triples 0\n204\nnodes 3 triples 2\n",
     ),
     (
         "feeds and stages side by side",
@@ -76,7 +76,7 @@ const FEEDS: [Row; 20] = [
     (
         "feeds after a fault are dropped, and a new upload begins anew",
         "0 open put default\n0 feed nt <http://e/s> <http://e/p> \"1\" .\n0 feed nt !\n0 feed nt <http://e/s> <http://e/p> \"2\" .\ncounts\n0 commit\n0 commit\ncounts\n0 open put default\n0 feed nt <http://e/s> <http://e/p> \"3\" .\n0 commit\n0 pin default\n0 piece 9\n",
-        "opened 1\nfed\nfed\nfed\nnodes 1 triples 0\nfault 400\nrefused WrongPhase\nnodes 1 triples 0\nopened 2\nfed\n204\n200\n<http://e/s> <http://e/p> \"3\" .\nend\n",
+        "opened 1\nfed\nfed\nfed\nnodes 2 triples 0\nfault 400\nrefused WrongPhase\nnodes 2 triples 0\nopened 2\nfed\n204\n200\n<http://e/s> <http://e/p> \"3\" .\nend\n",
     ),
     (
         "a cancel drops the reader and its fault",
@@ -101,7 +101,7 @@ const FEEDS: [Row; 20] = [
     (
         "a triple after a fault is not staged, nor one before it in the same feed",
         "0 open put default\n0 feed nt <http://e/s> <http://e/p> \"1\" . !\ncounts\n0 commit\n",
-        "opened 1\nfed\nnodes 0 triples 0\nfault 400\n",
+        "opened 1\nfed\nnodes 1 triples 0\nfault 400\n",
     ),
     (
         "spaces and a comment around a statement",
@@ -143,9 +143,9 @@ fn wrong_cut_of_letters(
 /// A term has at most 65,535 bytes, two of which are a literal's quotes.
 #[test]
 fn the_longest_literal_is_fed(rt: HostRuntime) -> Result<(), Fail> {
-    let fed = "opened 1\nfed\n204\nnodes 1 triples 1\n";
+    let fed = "opened 1\nfed\n204\nnodes 2 triples 1\n";
     assert_eq!(rt; wrong_cut_of_letters(rt.alloc(), 65_533, fed)?, None);
-    let refused = "opened 1\nfed\nfault 400\nnodes 0 triples 0\n";
+    let refused = "opened 1\nfed\nfault 400\nnodes 1 triples 0\n";
     assert_eq!(rt; wrong_cut_of_letters(rt.alloc(), 65_534, refused)?, None);
     Ok(())
 }
@@ -163,7 +163,7 @@ const OTHERS: [Row; 2] = [
     (
         "a refused commit ends the text",
         "store 1 999999999999999999 0\n0 open put default\n0 feed nt <http://e/s> <http://e/p> \"1\" .\n0 commit\n0 feed nt !\ncounts\n0 commit\n0 cancel\n",
-        "opened 1\nfed\nrefused LastNumber\nfed\nnodes 1 triples 0\nrefused LastNumber\ncancelled\n",
+        "opened 1\nfed\nrefused LastNumber\nfed\nnodes 2 triples 0\nrefused LastNumber\ncancelled\n",
     ),
 ];
 

@@ -67,12 +67,12 @@ const FEEDS: [Row; 18] = [
     (
         "triples are staged at their dot, and once",
         "0 open put default\n0 feed ttl <s> <p> 1 , 2\ncounts\n0 feed ttl . <s> <p> 2 , [ <q> 3 ]\ncounts\n0 feed ttl . <s> <p> 2 .\ncounts\n0 commit\ncounts\n",
-        "opened 1\nfed\nnodes 0 triples 0\nfed\nnodes 2 triples 0\nfed\nnodes 4 triples 0\n204\nnodes 4 triples 4\n",
+        "opened 1\nfed\nnodes 1 triples 0\nfed\nnodes 3 triples 0\nfed\nnodes 5 triples 0\n204\nnodes 5 triples 4\n",
     ),
     (
         "a triple before a fault in the same feed is not staged",
         "0 open put default\n0 feed ttl <s> <p> 1 .\n0 feed ttl <s> <p> 2 . <s> .\n0 feed ttl <s> <p> 3 .\ncounts\n0 commit\ncounts\n0 commit\n",
-        "opened 1\nfed\nfed\nfed\nnodes 1 triples 0\nfault 400\nnodes 1 triples 0\nrefused WrongPhase\n",
+        "opened 1\nfed\nfed\nfed\nnodes 2 triples 0\nfault 400\nnodes 2 triples 0\nrefused WrongPhase\n",
     ),
     (
         "a statement that does not end is a fault",
@@ -133,9 +133,9 @@ fn wrong_cut_of_nested(alloc: Global, depth: usize, want: &str) -> Result<Option
 /// Of 64 collections all but the innermost have a cell, which has two triples.
 #[test]
 fn sixty_four_collections_may_stand_in_one_another(rt: HostRuntime) -> Result<(), Fail> {
-    let fed = "opened 1\nfed\n201\nnodes 127 triples 127\n";
+    let fed = "opened 1\nfed\n201\nnodes 128 triples 127\n";
     assert_eq!(rt; wrong_cut_of_nested(rt.alloc(), 64, fed)?, None);
-    let refused = "opened 1\nfed\nfault 400\nnodes 0 triples 0\n";
+    let refused = "opened 1\nfed\nfault 400\nnodes 1 triples 0\n";
     assert_eq!(rt; wrong_cut_of_nested(rt.alloc(), 65, refused)?, None);
     Ok(())
 }

@@ -25,6 +25,13 @@ const LIST: u64 = 100;
 /// How many lines were given before the other uploads.
 const GIVEN: u64 = 10;
 
+/// How many records there are of one version of the graph, of two, and of three.
+const ONE_VERSION: u64 = 1;
+
+const TWO_VERSIONS: u64 = 2;
+
+const THREE_VERSIONS: u64 = 3;
+
 /// Triples have numbers from here on, all of four digits: those of the first upload are even, the one has
 /// the next even number, and those of the last upload are odd.
 const FIRST: u64 = 4_000;
@@ -73,7 +80,7 @@ fn list(alloc: Global, first: u64) -> Result<Vec<Triple>, Refusal> {
     Ok(triples)
 }
 
-/// The same, with so many nodes more.
+/// The same, with so many nodes or records more.
 fn with_more(bounds: Bounds, nodes: u64) -> Bounds {
     Bounds {
         least: bounds.least.saturating_add(nodes),
@@ -104,16 +111,17 @@ fn push_stages(
 /// Seat 0 puts the even triples.
 fn push_put(alloc: Global, lines: &mut Lines) -> Result<(), Refusal> {
     let open = Action::Open(UploadKind::Put(target(alloc, Place::A)?));
-    lines.push(
-        "Open",
-        Event::Seat(0, open),
-        "opened 1",
-        Bounds::exactly(0, 0),
-    )?;
-    push_stages(alloc, lines, FIRST, Bounds::exactly(0, 0))?;
+    let opened = Bounds::exactly(1, 0);
+    lines.push("Open", Event::Seat(0, open), "opened 1", opened)?;
+    push_stages(alloc, lines, FIRST, opened)?;
     let commit = Event::Seat(0, Action::Commit);
-    lines.push("Commit", commit, "status 201", Bounds::exactly(MANY, MANY))?;
+    lines.push("Commit", commit, "status 201", with_many())?;
     Ok(())
+}
+
+/// What is counted once the even triples were put.
+fn with_many() -> Bounds {
+    Bounds::exactly(MANY.saturating_add(ONE_VERSION), MANY)
 }
 
 /// Seat 1 begins to read.
@@ -132,23 +140,24 @@ fn push_piece(lines: &mut Lines, count: u32, words: &str, bounds: Bounds) -> Res
 
 /// What is counted once the one triple was posted.
 fn with_one() -> Bounds {
-    let before = MANY.saturating_add(1);
-    Bounds {
-        least: before,
-        most: before.saturating_add(MOST_FOR_ONE),
-        triples: before,
-    }
+    let triples = MANY.saturating_add(1);
+    let nodes = Bounds {
+        least: triples,
+        most: triples.saturating_add(MOST_FOR_ONE),
+        triples,
+    };
+    with_more(nodes, TWO_VERSIONS)
 }
 
 /// Seat 0 posts one triple, which takes no more nodes than it may.
 fn push_one(alloc: Global, lines: &mut Lines) -> Result<(), Refusal> {
     let open = Action::Open(UploadKind::Post(target(alloc, Place::A)?));
-    let before = Bounds::exactly(MANY, MANY);
-    lines.push("Open", Event::Seat(0, open), "opened 2", before)?;
+    let opened = with_more(with_many(), 1);
+    lines.push("Open", Event::Seat(0, open), "opened 2", opened)?;
     let mut one = Vec::new(alloc);
     one.push(triple(alloc, FIRST.saturating_add(MANY.saturating_mul(2)))?)?;
     let stage = Event::Seat(0, Action::Stage(one));
-    lines.push("Stage", stage, "staged", with_more(before, 1))?;
+    lines.push("Stage", stage, "staged", with_more(opened, 1))?;
     let commit = Event::Seat(0, Action::Commit);
     lines.push("Commit", commit, "status 204", with_one())?;
     Ok(())
@@ -157,12 +166,12 @@ fn push_one(alloc: Global, lines: &mut Lines) -> Result<(), Refusal> {
 /// Seat 0 posts the odd triples, each of which takes no more nodes than it may.
 fn push_post(alloc: Global, lines: &mut Lines) -> Result<(), Refusal> {
     let open = Action::Open(UploadKind::Post(target(alloc, Place::A)?));
-    let before = with_one();
-    lines.push("Open", Event::Seat(0, open), "opened 3", before)?;
-    push_stages(alloc, lines, FIRST.saturating_add(1), before)?;
-    let staged = before.most.saturating_add(MANY);
+    let opened = with_more(with_one(), 1);
+    lines.push("Open", Event::Seat(0, open), "opened 3", opened)?;
+    push_stages(alloc, lines, FIRST.saturating_add(1), opened)?;
+    let staged = opened.most.saturating_add(MANY);
     let bounds = Bounds {
-        least: ALL,
+        least: ALL.saturating_add(THREE_VERSIONS),
         most: staged.saturating_add(MANY.saturating_mul(MOST_FOR_TRIPLE)),
         triples: ALL,
     };
@@ -172,22 +181,24 @@ fn push_post(alloc: Global, lines: &mut Lines) -> Result<(), Refusal> {
 }
 
 /// While the read is there, a Reclaim leaves the nodes of the newest graph and those that the pin has, which
-/// are some, and at most as many as the read has triples. The lines of the read are those at its pin.
+/// are some, and at most as many as the read has triples; and the records of both versions, and not of the one
+/// between them. The lines of the read are those at its pin.
 fn push_rest(alloc: Global, lines: &mut Lines) -> Result<(), Refusal> {
-    let under_read = Bounds {
+    let nodes = Bounds {
         least: ALL.saturating_add(1),
         most: ALL.saturating_add(MANY),
         triples: ALL,
     };
+    let under_read = with_more(nodes, TWO_VERSIONS);
     lines.push_reclaim(true, under_read)?;
     let next = FIRST.saturating_add(GIVEN.saturating_mul(2));
     let rest = words(alloc, next, MANY.saturating_sub(GIVEN), 2, "end")?;
     push_piece(lines, 999, rest.as_str(), under_read)
 }
 
-/// After the read a Reclaim leaves a node for each triple. Seat 1 reads all triples.
+/// After the read a Reclaim leaves a node for each triple, and a record. Seat 1 reads all triples.
 fn push_end(alloc: Global, lines: &mut Lines) -> Result<(), Refusal> {
-    let bounds = Bounds::exactly(ALL, ALL);
+    let bounds = Bounds::exactly(ALL.saturating_add(ONE_VERSION), ALL);
     lines.push_reclaim(false, bounds)?;
     push_pin(alloc, lines, bounds)?;
     let all = words(alloc, FIRST, ALL, 1, "end")?;
@@ -195,7 +206,7 @@ fn push_end(alloc: Global, lines: &mut Lines) -> Result<(), Refusal> {
 }
 
 fn push_all(alloc: Global, lines: &mut Lines) -> Result<(), Refusal> {
-    let first = Bounds::exactly(MANY, MANY);
+    let first = with_many();
     push_put(alloc, lines)?;
     push_pin(alloc, lines, first)?;
     let given = words(alloc, FIRST, GIVEN, 2, "more")?;

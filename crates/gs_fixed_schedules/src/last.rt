@@ -17,65 +17,78 @@ enum Deed {
     Delete(Place),
     Pin(Place),
     Piece(u32),
-    /// Up to nine nodes are freed.
-    Free,
+    /// Up to so many nodes and records are freed.
+    Free(u64),
 }
 
-/// What is asked, what is to be answered, and how many nodes are in use then and triples are in graphs.
+/// What is asked, what is to be answered, and how many nodes and records are in use then, and triples in graphs.
 type Row = (Deed, &'static str, u64, u64);
 
-/// Four nodes: a fifth triple is refused, and there is room for it once the four were freed.
-const LAST_NODE: [Row; 15] = [
-    (Deed::Put(Place::A), "opened 1", 0, 0),
-    (Deed::Stage(0), "staged", 1, 0),
-    (Deed::Stage(1), "staged", 2, 0),
-    (Deed::Stage(2), "staged", 3, 0),
-    (Deed::Stage(3), "staged", 4, 0),
-    (Deed::Stage(4), "refused NoMemory", 4, 0),
-    (Deed::Commit, "status 201", 4, 4),
-    (Deed::Put(Place::B), "opened 2", 4, 4),
-    (Deed::Stage(4), "refused NoMemory", 4, 4),
-    (Deed::Cancel, "cancelled", 4, 4),
-    (Deed::Delete(Place::A), "status 204", 4, 0),
-    (Deed::Free, "reclaimed 4 done", 0, 0),
-    (Deed::Put(Place::A), "opened 3", 0, 0),
-    (Deed::Stage(4), "staged", 1, 0),
-    (Deed::Commit, "status 201", 1, 1),
+/// Four nodes: a fifth triple is refused, and there is room for it once the four were freed. Records have numbers
+/// of their own, so an Open takes none of the four. At the end three nodes and a record are waste, and what is
+/// freed first is a node: one triple more is taken, and no second.
+const LAST_NODE: [Row; 22] = [
+    (Deed::Put(Place::A), "opened 1", 1, 0),
+    (Deed::Stage(0), "staged", 2, 0),
+    (Deed::Stage(1), "staged", 3, 0),
+    (Deed::Stage(2), "staged", 4, 0),
+    (Deed::Stage(3), "staged", 5, 0),
+    (Deed::Stage(4), "refused NoMemory", 5, 0),
+    (Deed::Commit, "status 201", 5, 4),
+    (Deed::Delete(Place::A), "status 204", 5, 0),
+    (Deed::Free(9), "reclaimed 5 done", 0, 0),
+    (Deed::Put(Place::A), "opened 2", 1, 0),
+    (Deed::Stage(4), "staged", 2, 0),
+    (Deed::Commit, "status 201", 2, 1),
+    (Deed::Put(Place::B), "opened 3", 3, 1),
+    (Deed::Stage(0), "staged", 4, 1),
+    (Deed::Stage(1), "staged", 5, 1),
+    (Deed::Stage(2), "staged", 6, 1),
+    (Deed::Stage(3), "refused NoMemory", 6, 1),
+    (Deed::Cancel, "cancelled", 6, 1),
+    (Deed::Free(1), "reclaimed 1 more", 5, 1),
+    (Deed::Put(Place::B), "opened 4", 6, 1),
+    (Deed::Stage(0), "staged", 7, 1),
+    (Deed::Stage(1), "refused NoMemory", 7, 1),
 ];
 
-/// Four nodes: a POST takes them all for its upload, and its graph takes them after that. A POST onto three whose
-/// copies do not fit is refused, and leaves its upload with a node in use.
-const LAST_NODE_POSTED: [Row; 17] = [
-    (Deed::Post(Place::A), "opened 1", 0, 0),
-    (Deed::Stage(0), "staged", 1, 0),
-    (Deed::Stage(1), "staged", 2, 0),
-    (Deed::Stage(2), "staged", 3, 0),
-    (Deed::Stage(3), "staged", 4, 0),
-    (Deed::Commit, "status 201", 4, 4),
-    (Deed::Delete(Place::A), "status 204", 4, 0),
-    (Deed::Free, "reclaimed 4 done", 0, 0),
-    (Deed::Post(Place::A), "opened 2", 0, 0),
-    (Deed::Stage(0), "staged", 1, 0),
-    (Deed::Stage(1), "staged", 2, 0),
-    (Deed::Stage(2), "staged", 3, 0),
-    (Deed::Commit, "status 201", 3, 3),
-    (Deed::Post(Place::A), "opened 3", 3, 3),
-    (Deed::Stage(3), "staged", 4, 3),
-    (Deed::Commit, "refused NoMemory", 4, 3),
-    (Deed::Cancel, "cancelled", 4, 3),
+/// Four nodes: a POST takes them all for its upload, and its graph takes them after that. Then there is none for
+/// another upload, which is opened still. A POST onto three whose copies do not fit is refused, and leaves its
+/// upload with a node in use.
+const LAST_NODE_POSTED: [Row; 20] = [
+    (Deed::Post(Place::A), "opened 1", 1, 0),
+    (Deed::Stage(0), "staged", 2, 0),
+    (Deed::Stage(1), "staged", 3, 0),
+    (Deed::Stage(2), "staged", 4, 0),
+    (Deed::Stage(3), "staged", 5, 0),
+    (Deed::Commit, "status 201", 5, 4),
+    (Deed::Put(Place::B), "opened 2", 6, 4),
+    (Deed::Stage(4), "refused NoMemory", 6, 4),
+    (Deed::Cancel, "cancelled", 6, 4),
+    (Deed::Delete(Place::A), "status 204", 6, 0),
+    (Deed::Free(9), "reclaimed 6 done", 0, 0),
+    (Deed::Post(Place::A), "opened 3", 1, 0),
+    (Deed::Stage(0), "staged", 2, 0),
+    (Deed::Stage(1), "staged", 3, 0),
+    (Deed::Stage(2), "staged", 4, 0),
+    (Deed::Commit, "status 201", 4, 3),
+    (Deed::Post(Place::A), "opened 4", 5, 3),
+    (Deed::Stage(3), "staged", 6, 3),
+    (Deed::Commit, "refused NoMemory", 6, 3),
+    (Deed::Cancel, "cancelled", 6, 3),
 ];
 
 /// Three terms: a triple with a fourth is refused, and one of those three is taken. The first two triples
 /// have one subject and one predicate; the object of the second is that subject. The fifth has another
 /// subject.
 const LAST_TERM: [Row; 7] = [
-    (Deed::Put(Place::A), "opened 1", 0, 0),
-    (Deed::Stage(0), "staged", 1, 0),
-    (Deed::Stage(4), "refused NoMemory", 1, 0),
-    (Deed::Stage(1), "staged", 2, 0),
-    (Deed::Commit, "status 201", 2, 2),
-    (Deed::Pin(Place::A), "pinned 200", 2, 2),
-    (Deed::Piece(9), TWO_LINES, 2, 2),
+    (Deed::Put(Place::A), "opened 1", 1, 0),
+    (Deed::Stage(0), "staged", 2, 0),
+    (Deed::Stage(4), "refused NoMemory", 2, 0),
+    (Deed::Stage(1), "staged", 3, 0),
+    (Deed::Commit, "status 201", 3, 2),
+    (Deed::Pin(Place::A), "pinned 200", 3, 2),
+    (Deed::Piece(9), TWO_LINES, 3, 2),
 ];
 
 /// The lines of the first two triples.
@@ -99,15 +112,17 @@ fn ask_of(alloc: Global, deed: Deed) -> Result<Option<Ask>, AllocError> {
         Deed::Delete(place) => Ok(Some(Ask::Delete(place))),
         Deed::Pin(place) => Ok(Some(Ask::Pin(place))),
         Deed::Piece(count) => Ok(Some(Ask::Piece(count))),
-        Deed::Free => Ok(None),
+        Deed::Free(_) => Ok(None),
     }
 }
 
 fn push_row(alloc: Global, lines: &mut Lines, row: &Row) -> Result<(), Refusal> {
     let (deed, words, nodes, triples) = *row;
     let bounds = Bounds::exactly(nodes, triples);
+    if let Deed::Free(most) = deed {
+        lines.push("Reclaim", Event::Reclaim(most), words, bounds)?;
+    }
     let Some(ask) = ask_of(alloc, deed)? else {
-        lines.push("Reclaim", Event::Reclaim(9), words, bounds)?;
         return Ok(());
     };
     let name = SORT_NAMES.get(sort_of(&ask)).copied().unwrap_or_default();

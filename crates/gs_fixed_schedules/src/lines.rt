@@ -16,7 +16,7 @@ enum Wanted {
 /// What is to be counted.
 #[derive(Clone, Copy, Drop)]
 pub struct Bounds {
-    /// At least so many nodes are in use, and at most so many.
+    /// At least so many nodes and records are in use, and at most so many.
     pub least: u64,
     pub most: u64,
     /// The triples of graphs.
@@ -24,7 +24,7 @@ pub struct Bounds {
 }
 
 impl Bounds {
-    /// Exactly so many nodes, and so many triples.
+    /// Exactly so many nodes and records, and so many triples.
     pub fn exactly(nodes: u64, triples: u64) -> Bounds {
         Bounds {
             least: nodes,

@@ -25,7 +25,7 @@ const OTHERS: [Row; 2] = [
     (
         "the last commit is the graph",
         "# two uploads\n\n0 open put default\n1 open put default\n0 stage <http://e/s> <http://e/p> \"0\" .\n0 stage <http://e/s> <http://e/p> \"0\" .\n1 stage _:b1_1 <http://e/p> \"x\\ny\"@en-us .\ncounts\n1 commit\n0 commit\n2 pin default\n2 piece 2",
-        "opened 1\nopened 2\nstaged\nstaged\nstaged\nnodes 2 triples 0\n204\n204\n200\n<http://e/s> <http://e/p> \"0\" .\nend\n",
+        "opened 1\nopened 2\nstaged\nstaged\nstaged\nnodes 4 triples 0\n204\n204\n200\n<http://e/s> <http://e/p> \"0\" .\nend\n",
     ),
 ];
 

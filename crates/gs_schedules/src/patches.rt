@@ -1,7 +1,7 @@
 //! Schedules of patches, worked by hand.
 use crate::rows::Row;
 
-pub const PATCHES: [Row; 21] = [
+pub const PATCHES: [Row; 25] = [
     (
         "an operation takes effect on what the ones before it left",
         "0 open patch default\n0 patch INSERT DATA { _:x <http://e/p> 1 } ; DELETE WHERE { ?s <http://e/p> 1 } ; INSERT DATA { <http://e/a> a 01 }\n0 pin default\n0 piece 9\n",
@@ -15,7 +15,7 @@ pub const PATCHES: [Row; 21] = [
     (
         "texts with a fault, and a collection that stands alone",
         "0 open patch default\n0 patch DELETE WHERE { }\n0 open patch default\n0 patch INSERT DATA { GRAPH <http://e/g> { } }\n0 open patch default\n0 patch INSERT DATA { <http://e/a> a _:x } ; INSERT DATA { _:x a 1 }\n0 open patch default\n0 patch DELETE DATA { ?s a 1 }\n0 open patch default\n0 patch INSERT DATA { ( 1 2 ) }\n0 open patch default\n0 patch INSERT DATA { ( ) }\ncounts\n",
-        "opened 1\nfault 422\nopened 2\nfault 422\nopened 3\nfault 400\nopened 4\nfault 400\nopened 5\n204\nopened 6\nfault 400\nnodes 4 triples 4\n",
+        "opened 1\nfault 422\nopened 2\nfault 422\nopened 3\nfault 400\nopened 4\nfault 400\nopened 5\n204\nopened 6\nfault 400\nnodes 10 triples 4\n",
     ),
     (
         "a patch on a seat that has none",
@@ -25,7 +25,7 @@ pub const PATCHES: [Row; 21] = [
     (
         "an update without an operation",
         "0 open patch default\n0 patch\n0 open patch default\n0 patch \n0 open patch default\n0 patch  \n0 open patch default\n0 patch PREFIX e: <http://e/> BASE <x> # no more\n0 pin default\n0 piece 1\ncounts\n",
-        "opened 1\n204\nopened 2\n204\nopened 3\n204\nopened 4\n204\n200\nend\nnodes 0 triples 0\n",
+        "opened 1\n204\nopened 2\n204\nopened 3\n204\nopened 4\n204\n200\nend\nnodes 4 triples 0\n",
     ),
     (
         "a patch of a missing graph makes none, and one that is made after the opening is patched",
@@ -62,26 +62,27 @@ pub const PATCHES: [Row; 21] = [
         "0 open put default\n0 stage <http://e/s> <http://e/p> \"1\" .\n0 stage <http://e/s> <http://e/p> \"2\" .\n0 commit\n1 pin default\n1 piece 1\n0 open patch default\n0 patch DELETE DATA { <http://e/s> <http://e/p> \"1\" , \"2\" } ; INSERT DATA { <http://e/s> <http://e/p> \"3\" }\n1 piece 1\n1 pin default\n1 piece 9\n",
         "opened 1\nstaged\nstaged\n204\n200\n<http://e/s> <http://e/p> \"1\" .\nmore\nopened 2\n204\n<http://e/s> <http://e/p> \"2\" .\nend\n200\n<http://e/s> <http://e/p> \"3\" .\nend\n",
     ),
-    // In these two rows a read of the default graph has a version before that of the patch, and the first triple is above the second.
+    // In these two rows a read of the default graph has a version before that of the patch, and the first triple is above the second. Of
+    // records two go: that of the patch's version, and that of the PUT of the default graph, which did not use it.
     (
         "what an insertion copies is not needed before its commit",
         "0 open put <http://e/g>\n0 stage <http://e/s> <http://e/p> \"1\" .\n0 commit\n1 open put default\n1 commit\n1 pin default\n0 open patch <http://e/g>\n0 patch INSERT DATA { <http://e/s> <http://e/p> \"2\" }\n0 open put <http://e/g>\n0 commit\nreclaim 9\n",
-        "opened 1\nstaged\n201\nopened 2\n204\n200\nopened 3\n204\nopened 4\n204\nreclaimed 2 more\n",
+        "opened 1\nstaged\n201\nopened 2\n204\n200\nopened 3\n204\nopened 4\n204\nreclaimed 4 more\n",
     ),
     (
         "what a removal copies is not needed before its commit",
         "0 open put <http://e/g>\n0 stage <http://e/s> <http://e/p> \"1\" .\n0 stage <http://e/s> <http://e/p> \"2\" .\n0 commit\n1 open put default\n1 commit\n1 pin default\n0 open patch <http://e/g>\n0 patch DELETE DATA { <http://e/s> <http://e/p> \"2\" }\n0 open put <http://e/g>\n0 commit\nreclaim 9\n",
-        "opened 1\nstaged\nstaged\n201\nopened 2\n204\n200\nopened 3\n204\nopened 4\n204\nreclaimed 1 more\n",
+        "opened 1\nstaged\nstaged\n201\nopened 2\n204\n200\nopened 3\n204\nopened 4\n204\nreclaimed 3 more\n",
     ),
     (
         "two seats patch a graph in the order of their texts",
         "0 open patch default\n1 open patch default\n1 patch INSERT DATA { <http://e/s> <http://e/p> \"1\" , \"2\" }\n0 patch DELETE DATA { <http://e/s> <http://e/p> \"1\" } ; INSERT DATA { _:x <http://e/p> \"0\" }\n2 pin default\n2 piece 9\ncounts\n",
-        "opened 1\nopened 2\n204\n204\n200\n<http://e/s> <http://e/p> \"2\" .\n_:b1_1 <http://e/p> \"0\" .\nend\nnodes 4 triples 2\n",
+        "opened 1\nopened 2\n204\n204\n200\n<http://e/s> <http://e/p> \"2\" .\n_:b1_1 <http://e/p> \"0\" .\nend\nnodes 6 triples 2\n",
     ),
     (
         "a seat that patches takes nothing but its patch",
         "0 open patch default\n0 feed nt <http://e/s> <http://e/p> \"1\" .\n0 feed ttl \n0 stage <http://e/s> <http://e/p> \"1\" .\n0 commit\n0 open put default\n0 open patch default\n0 pin default\n0 piece 1\n0 delete default\n0 head default\n0 patch\ncounts\n",
-        "opened 1\nrefused WrongPhase\nrefused WrongPhase\nrefused WrongPhase\nrefused WrongPhase\nrefused WrongPhase\nrefused WrongPhase\nrefused WrongPhase\nrefused WrongPhase\nrefused WrongPhase\nrefused WrongPhase\n204\nnodes 0 triples 0\n",
+        "opened 1\nrefused WrongPhase\nrefused WrongPhase\nrefused WrongPhase\nrefused WrongPhase\nrefused WrongPhase\nrefused WrongPhase\nrefused WrongPhase\nrefused WrongPhase\nrefused WrongPhase\nrefused WrongPhase\n204\nnodes 1 triples 0\n",
     ),
     (
         "a patch in the middle of an upload is refused, and the upload goes on",
@@ -107,5 +108,27 @@ pub const PATCHES: [Row; 21] = [
         "no patch is opened after the last request",
         "store 4 0 999999999999999999\n0 open patch default\n0 patch\n",
         "refused LastNumber\nrefused WrongPhase\n",
+    ),
+    // An Open of a patch takes a record, too. A patch that takes effect uses it, also where it changes nothing, unless the default graph is
+    // empty then.
+    (
+        "a patch that is opened takes a record, and a cancel leaves it",
+        "0 open patch default\ncounts\n0 cancel\ncounts\nreclaim 9\ncounts\n",
+        "opened 1\nnodes 1 triples 0\ncancelled\nnodes 1 triples 0\nreclaimed 1 done\nnodes 0 triples 0\n",
+    ),
+    (
+        "a patch of a missing graph leaves its record",
+        "0 open patch <http://e/g>\n0 patch INSERT DATA { <http://e/s> <http://e/p> \"1\" }\ncounts\nreclaim 9\ncounts\n",
+        "opened 1\n404\nnodes 1 triples 0\nreclaimed 1 done\nnodes 0 triples 0\n",
+    ),
+    (
+        "a patch that changes nothing ends the record of the version before, which a read keeps",
+        "0 open put <http://e/g>\n0 stage <http://e/s> <http://e/p> \"1\" .\n0 commit\n1 pin <http://e/g>\n0 open patch <http://e/g>\n0 patch\ncounts\nreclaim 9\n0 open patch <http://e/g>\n0 patch DELETE DATA { <http://e/s> <http://e/p> \"2\" } ; INSERT DATA { <http://e/s> <http://e/p> \"1\" }\ncounts\nreclaim 9\n1 piece 9\nreclaim 9\ncounts\n",
+        "opened 1\nstaged\n201\n200\nopened 2\n204\nnodes 3 triples 1\nreclaimed 0 more\nopened 3\n204\nnodes 4 triples 1\nreclaimed 1 more\n<http://e/s> <http://e/p> \"1\" .\nend\nreclaimed 1 done\nnodes 2 triples 1\n",
+    ),
+    (
+        "a patch that takes the last triple of the default graph leaves its record unused",
+        "0 open put default\n0 stage <http://e/s> <http://e/p> \"1\" .\n0 commit\n0 open patch default\n0 patch DELETE DATA { <http://e/s> <http://e/p> \"1\" }\ncounts\nreclaim 9\ncounts\n",
+        "opened 1\nstaged\n204\nopened 2\n204\nnodes 3 triples 0\nreclaimed 3 done\nnodes 0 triples 0\n",
     ),
 ];

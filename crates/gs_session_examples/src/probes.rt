@@ -20,11 +20,19 @@ pub fn new_store(alloc: Global, numbers: Numbers) -> Result<Store, Refusal> {
     }
 }
 
-/// What is seen of a store: its number of triples, and which of some graphs it has, a bit for each.
+/// What is seen of a store: its number of triples, and of records, and which of some graphs it has, a bit for
+/// each.
 #[derive(Clone, Copy, Drop, PartialEq)]
 pub struct State {
     triples: u64,
+    records: u64,
     graphs: u8,
+}
+
+/// Whether no waste is left once a store gives back what it may.
+fn gives_all_back(store: &mut Store) -> bool {
+    let answer = store.step(&Event::Reclaim(u64::MAX));
+    matches!(answer, Answer::Reclaimed(_, false))
 }
 
 /// Questions for graphs that conversations make.
@@ -51,14 +59,14 @@ impl Probe {
         Ok(Probe { heads })
     }
 
-    /// The state of a store whose seat is idle, and which holds nothing but its graphs once the waste is
-    /// given back.
+    /// The state of a store whose seat is idle, and in which no waste is left once it is given back: then it
+    /// has nothing but a node for each triple and the records of its graphs.
     pub fn state_of(&self, store: &mut Store) -> Option<State> {
-        store.step(&Event::Reclaim(u64::MAX));
-        let triples = store.triples_now();
-        if store.nodes_in_use() != triples {
+        if !gives_all_back(store) {
             return None;
         }
+        let triples = store.triples_now();
+        let records = store.nodes_in_use().checked_sub(triples)?;
         let mut graphs = 0u8;
         for head in &self.heads {
             let Answer::Status(status, _) = store.step(head) else {
@@ -66,6 +74,10 @@ impl Probe {
             };
             graphs = graphs.wrapping_mul(2).wrapping_add(u8::from(status == 200));
         }
-        Some(State { triples, graphs })
+        Some(State {
+            triples,
+            records,
+            graphs,
+        })
     }
 }

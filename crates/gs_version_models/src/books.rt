@@ -1,7 +1,7 @@
 //! What events do to graphs and versions.
 use crate::finds::edited;
 use crate::graphs::Graphs;
-use crate::outcomes::{Growth, Outcome, Said};
+use crate::outcomes::{Outcome, Said};
 use crate::phases::{Phase, Read, Turn, Upload};
 use crate::rules::Lie;
 use crate::sets::Set;
@@ -34,15 +34,36 @@ impl Books {
         }
     }
 
-    /// How many nodes a Reclaim of so many frees under these pins.
+    /// How many nodes and records a Reclaim of so many frees under these pins.
     pub fn free(&mut self, most: u64, pins: &Pins) -> u64 {
         self.versions.free(most, pins, self.lie)
     }
 
-    /// An upload is given up.
-    pub fn give_up(&mut self, upload: Upload) -> Turn {
-        self.versions.add_loose(upload.triples.count());
-        Turn::to(Phase::Idle, Said::Cancelled)
+    /// An upload of so many nodes, or a patch, is given up.
+    pub fn cancel(&mut self, nodes: u64) -> Turn {
+        self.give_up(Outcome::of(Said::Cancelled), nodes)
+    }
+
+    /// An upload or a patch ends without effect: so many of its nodes and its record are of no version.
+    fn give_up(&mut self, outcome: Outcome, nodes: u64) -> Turn {
+        let unreached = nodes.saturating_add(1);
+        self.versions.add_loose(unreached);
+        Turn {
+            phase: Phase::Idle,
+            outcome: outcome.with_unreached(unreached),
+        }
+    }
+
+    /// A write gives a graph these triples. Its record is of no version where the default graph is empty
+    /// then.
+    fn write(&mut self, place: Place, triples: Set, outcome: Outcome) -> Result<Turn, AllocError> {
+        self.set_graph(place, Some(triples))?;
+        let unused = u64::from(!self.graphs.get(place).has_record());
+        self.versions.add_loose(unused);
+        Ok(Turn {
+            phase: Phase::Idle,
+            outcome: outcome.with_unreached(unused),
+        })
     }
 
     /// The number of the next request.
@@ -70,7 +91,7 @@ impl Books {
         if self.graphs.triples(place).is_none() {
             return Ok(Turn::to(Phase::Idle, Said::Status(404)));
         }
-        self.end_tree(place)?;
+        self.end_version(place)?;
         let left = match place {
             Place::Default => Some(Set::none()),
             _ => None,
@@ -90,10 +111,7 @@ impl Books {
         };
         Turn {
             phase: Phase::Writing(more),
-            outcome: Outcome {
-                said: Said::Staged,
-                growth: Growth::Exactly(new),
-            },
+            outcome: Outcome::staged(new),
         }
     }
 
@@ -103,14 +121,16 @@ impl Books {
         self.graphs.set(place, triples, self.commit)
     }
 
-    /// The tree that a graph has ends by the next commit.
-    fn end_tree(&mut self, place: Place) -> Result<(), AllocError> {
+    /// The tree and the record that a graph has end by the next commit.
+    fn end_version(&mut self, place: Place) -> Result<(), AllocError> {
         let graph = self.graphs.get(place);
         let Some(triples) = graph.triples else {
             return Ok(());
         };
         let death = self.commit.saturating_add(1);
-        self.versions.end(graph.birth, death, triples.count())
+        let records = u64::from(graph.has_record());
+        let size = triples.count().saturating_add(records);
+        self.versions.end(graph.birth, death, size)
     }
 
     /// The status of a write that gives a graph these triples, and makes it where there is none.
@@ -140,32 +160,28 @@ impl Books {
 
     fn commit_put(&mut self, place: Place, triples: Set) -> Result<Turn, AllocError> {
         let status = self.status(place, triples);
+        let outcome = Outcome::of(Said::Status(status));
         if status == 507 {
-            return Ok(Turn::to(Phase::Idle, Said::Status(507)));
+            return Ok(self.give_up(outcome, triples.count()));
         }
         if self.lie != Lie::PutLosesTree {
-            self.end_tree(place)?;
+            self.end_version(place)?;
         }
-        self.set_graph(place, Some(triples))?;
-        Ok(Turn::to(Phase::Idle, Said::Status(status)))
+        self.write(place, triples, outcome)
     }
 
     fn commit_post(&mut self, place: Place, triples: Set) -> Result<Turn, AllocError> {
         let old = self.graphs.triples(place).unwrap_or(Set::none());
         let both = old.with(triples);
         let status = self.status(place, both);
+        let said = Said::Status(status);
         if status == 507 {
-            return Ok(Turn {
-                phase: Phase::Idle,
-                outcome: Outcome::given_back(Said::Status(507), triples.count()),
-            });
+            let outcome = Outcome::given_back(said, triples.count());
+            return Ok(self.give_up(outcome, 0));
         }
-        self.set_graph(place, Some(both))?;
         let new = both.count().saturating_sub(old.count());
-        Ok(Turn {
-            phase: Phase::Idle,
-            outcome: Outcome::exchanged(Said::Status(status), triples.count(), new),
-        })
+        let outcome = Outcome::exchanged(said, triples.count(), new);
+        self.write(place, both, outcome)
     }
 
     /// The least number whose name for this request is free.
@@ -182,21 +198,19 @@ impl Books {
     fn commit_new(&mut self, upload: Upload) -> Result<Turn, AllocError> {
         let number = self.free_number(upload.request);
         let place = Place::Made(upload.request, number);
+        let staged = upload.triples.count();
         if self.status(place, upload.triples) == 507 {
-            return Ok(Turn::to(Phase::Idle, Said::Status(507)));
+            return Ok(self.give_up(Outcome::of(Said::Status(507)), staged));
         }
-        self.set_graph(place, Some(upload.triples))?;
         let said = Said::Made(upload.request, number);
-        Ok(Turn {
-            phase: Phase::Idle,
-            outcome: Outcome::after_change(said, upload.triples.count()),
-        })
+        let outcome = Outcome::after_change(said, staged);
+        self.write(place, upload.triples, outcome)
     }
 
     /// Operations are done on a graph.
     pub fn commit_patch(&mut self, place: Place, edits: &[Edit]) -> Result<Turn, AllocError> {
         let Some(mut triples) = self.graphs.triples(place) else {
-            return Ok(Turn::to(Phase::Idle, Said::Status(404)));
+            return Ok(self.give_up(Outcome::of(Said::Status(404)), 0));
         };
         let mut changed = 0u64;
         for edit in edits {
@@ -207,13 +221,10 @@ impl Books {
             triples = after;
         }
         if self.status(place, triples) == 507 {
-            return Ok(Turn::to(Phase::Idle, Said::Status(507)));
+            return Ok(self.give_up(Outcome::of(Said::Status(507)), 0));
         }
-        self.set_graph(place, Some(triples))?;
-        Ok(Turn {
-            phase: Phase::Idle,
-            outcome: Outcome::after_change(Said::Status(204), changed),
-        })
+        let outcome = Outcome::after_change(Said::Status(204), changed);
+        self.write(place, triples, outcome)
     }
 
     /// A read is given so many lines.

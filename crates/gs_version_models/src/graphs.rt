@@ -11,6 +11,17 @@ pub struct Graph {
     pub birth: u64,
 }
 
+impl Graph {
+    /// Whether a store keeps a record of it: none of a graph that was taken away, nor of an empty default
+    /// graph.
+    pub fn has_record(&self) -> bool {
+        match self.triples {
+            None => false,
+            Some(triples) => self.place != Place::Default || triples.count() > 0,
+        }
+    }
+}
+
 /// All graphs that there were.
 #[derive(Drop)]
 pub struct Graphs {
@@ -75,6 +86,15 @@ impl Graphs {
             if let Some(triples) = graph.triples {
                 count = count.saturating_add(triples.count());
             }
+        }
+        count
+    }
+
+    /// How many records a store keeps of them as they are.
+    pub fn records(&self) -> u64 {
+        let mut count = 0u64;
+        for graph in &self.list {
+            count = count.saturating_add(u64::from(graph.has_record()));
         }
         count
     }

@@ -1,5 +1,5 @@
 //! A plain model of a store for tests: graphs as sets of triples by number, seats, and versions that ended,
-//! whose nodes it counts.
+//! whose nodes and records it counts.
 #![tactic(auto)]
 
 mod answers;

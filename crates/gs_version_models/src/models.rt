@@ -39,26 +39,17 @@ impl Model {
         self.books.graphs.made(alloc)
     }
 
-    /// How many triples a seat's upload has.
-    pub fn staged(&self, seat: u16) -> u64 {
-        match self.phase(seat) {
-            Phase::Writing(upload) => upload.triples.count(),
-            _ => 0,
-        }
-    }
-
     /// How many triples all graphs have.
     pub fn triples(&self) -> u64 {
         self.books.graphs.count()
     }
 
-    /// The same and those of all open uploads.
+    /// How many nodes and records the graphs and all seats have: a node for each triple of a graph and of an
+    /// open upload, and the records of graphs and of open uploads and patches.
     pub fn nodes(&self) -> u64 {
-        let mut nodes = self.triples();
+        let mut nodes = self.triples().saturating_add(self.books.graphs.records());
         for phase in &self.phases {
-            if let Phase::Writing(upload) = phase {
-                nodes = nodes.saturating_add(upload.triples.count());
-            }
+            nodes = nodes.saturating_add(phase.held());
         }
         nodes
     }
@@ -89,7 +80,8 @@ impl Model {
         }
     }
 
-    /// How many nodes a Reclaim of so many frees, where each commit gives a graph a tree of its own.
+    /// How many nodes and records a Reclaim of so many frees, where each commit gives a graph a tree of its
+    /// own.
     pub fn reclaim(&mut self, most: u64) -> u64 {
         let pins = self.pins();
         self.books.free(most, &pins)
@@ -123,11 +115,11 @@ impl Model {
                     request,
                     triples: Set::none(),
                 };
-                Ok(Turn::to(Phase::Writing(upload), Said::Opened(request)))
+                Ok(Turn::opened(Phase::Writing(upload), request))
             }
             Ask::OpenPatch(place) => {
                 let request = self.books.next_request();
-                Ok(Turn::to(Phase::Patching(*place), Said::Opened(request)))
+                Ok(Turn::opened(Phase::Patching(*place), request))
             }
             Ask::Delete(place) => self.books.delete(*place),
             Ask::Head(place) => {
@@ -145,7 +137,7 @@ impl Model {
         match ask {
             Ask::Stage(numbers) => Ok(self.books.stage(upload, numbers.as_slice())),
             Ask::Commit => self.books.commit_upload(upload),
-            Ask::Cancel => Ok(self.books.give_up(upload)),
+            Ask::Cancel => Ok(self.books.cancel(upload.triples.count())),
             _ => Ok(Turn::refused(Phase::Writing(upload))),
         }
     }
@@ -154,7 +146,7 @@ impl Model {
     fn patch(&mut self, place: Place, ask: &Ask) -> Result<Turn, AllocError> {
         match ask {
             Ask::Patch(edits) => self.books.commit_patch(place, edits.as_slice()),
-            Ask::Cancel => Ok(Turn::to(Phase::Idle, Said::Cancelled)),
+            Ask::Cancel => Ok(self.books.cancel(0)),
             _ => Ok(Turn::refused(Phase::Patching(place))),
         }
     }

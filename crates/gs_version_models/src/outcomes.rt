@@ -1,4 +1,5 @@
-//! What the model says of an event: the answer, and how many more or fewer nodes are in use then.
+//! What the model says of an event: the answer, how many more or fewer nodes and records are in use then, and
+//! how many become waste that no version reached.
 use crate::sets::Set;
 use gs_model::Refusal;
 
@@ -23,7 +24,7 @@ pub enum Said {
     Refused(Refusal),
 }
 
-/// How many nodes more, or fewer, are in use.
+/// How many nodes and records more, or fewer, are in use.
 #[derive(Clone, Copy, Drop)]
 pub enum Growth {
     Exactly(u64),
@@ -38,15 +39,33 @@ pub enum Growth {
 pub struct Outcome {
     pub said: Said,
     pub growth: Growth,
+    /// So many nodes and records become waste that no version reached.
+    pub unreached: u64,
 }
 
 impl Outcome {
-    /// An answer after which as many nodes are in use as before.
-    pub fn of(said: Said) -> Outcome {
+    /// An answer after which the number in use has grown so.
+    fn grown(said: Said, growth: Growth) -> Outcome {
         Outcome {
             said,
-            growth: Growth::Exactly(0),
+            growth,
+            unreached: 0,
         }
+    }
+
+    /// An answer after which as many nodes and records are in use as before.
+    pub fn of(said: Said) -> Outcome {
+        Outcome::grown(said, Growth::Exactly(0))
+    }
+
+    /// An Open with this request number, which takes a record.
+    pub fn opened(request: u64) -> Outcome {
+        Outcome::grown(Said::Opened(request), Growth::Exactly(1))
+    }
+
+    /// A list of which so many triples are new to its upload.
+    pub fn staged(new: u64) -> Outcome {
+        Outcome::grown(Said::Staged, Growth::Exactly(new))
     }
 
     /// The same of a refusal.
@@ -56,25 +75,25 @@ impl Outcome {
 
     /// An answer after which so many nodes are given back.
     pub fn given_back(said: Said, nodes: u64) -> Outcome {
-        Outcome {
-            said,
-            growth: Growth::Fewer(nodes),
-        }
+        Outcome::grown(said, Growth::Fewer(nodes))
     }
 
     /// An answer after which so many nodes are given back, and so many triples are new to a graph.
     pub fn exchanged(said: Said, nodes: u64, new: u64) -> Outcome {
-        Outcome {
-            said,
-            growth: Growth::Exchanged(nodes, new.saturating_mul(MOST_FOR_NEW)),
-        }
+        let most = new.saturating_mul(MOST_FOR_NEW);
+        Outcome::grown(said, Growth::Exchanged(nodes, most))
     }
 
     /// An answer after a change of so many triples.
     pub fn after_change(said: Said, triples: u64) -> Outcome {
-        Outcome {
-            said,
-            growth: Growth::AtMost(triples.saturating_mul(MOST_FOR_TRIPLE)),
-        }
+        let most = triples.saturating_mul(MOST_FOR_TRIPLE);
+        Outcome::grown(said, Growth::AtMost(most))
+    }
+
+    /// The same, after which so many nodes and records are waste that no version reached.
+    pub fn with_unreached(self, unreached: u64) -> Outcome {
+        let mut outcome = self;
+        outcome.unreached = unreached;
+        outcome
     }
 }

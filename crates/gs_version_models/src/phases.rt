@@ -32,6 +32,18 @@ pub enum Phase {
     Reading(Read),
 }
 
+impl Phase {
+    /// How many nodes and records a seat has open: a node for each triple of an upload, and a record of an
+    /// upload or a patch.
+    pub fn held(&self) -> u64 {
+        match self {
+            Phase::Writing(upload) => upload.triples.count().saturating_add(1),
+            Phase::Patching(_) => 1,
+            _ => 0,
+        }
+    }
+}
+
 /// What becomes of a seat, and what is said.
 #[derive(Clone, Copy, Drop)]
 pub struct Turn {
@@ -40,11 +52,19 @@ pub struct Turn {
 }
 
 impl Turn {
-    /// An answer after which as many nodes are in use as before.
+    /// An answer after which as many nodes and records are in use as before.
     pub fn to(phase: Phase, said: Said) -> Turn {
         Turn {
             phase,
             outcome: Outcome::of(said),
+        }
+    }
+
+    /// An Open with this request number.
+    pub fn opened(phase: Phase, request: u64) -> Turn {
+        Turn {
+            phase,
+            outcome: Outcome::opened(request),
         }
     }
 

@@ -4,17 +4,17 @@
 #[derive(Clone, Copy, Drop, PartialEq)]
 pub enum Lie {
     Nothing,
-    /// Of the pinned versions the newest alone has nodes.
+    /// Of the pinned versions the newest alone has nodes and records.
     NewestPinAlone,
-    /// The tree that a PUT replaces is never wasted.
+    /// The tree and the record that a PUT replaces are never wasted.
     PutLosesTree,
     /// A read has the lines of its graph as it is now.
     ReadsMoveOn,
     /// A triple that comes again in a list takes a node of its own.
     RepeatsTakeNodes,
-    /// A version still has its nodes at the commit that ended it.
+    /// A version still has its nodes and its record at the commit that ended it.
     EndsLate,
-    /// A version does not have its nodes at its own commit.
+    /// A version does not have its nodes and its record at its own commit.
     BeginsLate,
 }
 

@@ -1,4 +1,4 @@
-//! Versions that ended, and how many of their nodes a Reclaim frees.
+//! Versions that ended, and how many of their nodes and records a Reclaim frees.
 use crate::rules::Lie;
 use std::alloc::{AllocError, Global};
 
@@ -8,8 +8,8 @@ pub const SEATS: usize = 4;
 /// The commit number at the pin of each seat's read.
 pub type Pins = [Option<u64>; SEATS];
 
-/// A version of a graph: the commits that made it and that ended it, and how many of its nodes are not
-/// freed.
+/// A version of a graph: the commits that made it and that ended it, and how many of its nodes and its record
+/// are not freed.
 #[derive(Clone, Copy, Drop)]
 struct Ended {
     birth: u64,
@@ -21,7 +21,7 @@ struct Ended {
 #[derive(Drop)]
 pub struct Versions {
     ended: Vec<Ended>,
-    /// Nodes that no pinned version has, and none will.
+    /// Nodes and records that no pinned version has, and none will.
     loose: u64,
 }
 
@@ -70,19 +70,19 @@ impl Versions {
         }
     }
 
-    /// A version of so many nodes was made by a commit, and ended by another.
+    /// A version of so many nodes, with its record, was made by a commit, and ended by another.
     pub fn end(&mut self, birth: u64, death: u64, size: u64) -> Result<(), AllocError> {
         let ended = Ended { birth, death, size };
         self.ended.push(ended).map_err(AllocError::from)
     }
 
-    /// So many nodes are of no version.
+    /// So many nodes and records are of no version.
     pub fn add_loose(&mut self, size: u64) {
         self.loose = self.loose.saturating_add(size);
     }
 
-    /// How many nodes a Reclaim frees that may free so many, under these pins. What no pin has is never
-    /// had by a later one.
+    /// How many nodes and records a Reclaim frees that may free so many, under these pins. What no pin has is
+    /// never had by a later one.
     pub fn free(&mut self, most: u64, pins: &Pins, lie: Lie) -> u64 {
         let counted = if lie == Lie::NewestPinAlone {
             newest_alone(pins)
