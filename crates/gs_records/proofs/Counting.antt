@@ -24,7 +24,7 @@ use Rattle.gs_records.proofs.Keeping.{length-records_of}
 use Rattle.gs_records.proofs.Found.{not_kept, same_versions, cases_target, version_at-with, version_at-with_other, version_at-without, version_at-without_other}
 use Rattle.gs_records.proofs.Versions.{versions_none}
 
-some_version : (a b : GraphVersion) → Some a ≡ Some b → a ≡ b
+pub some_version : (a b : GraphVersion) → Some a ≡ Some b → a ≡ b
 some_version a b e = cc
 
 -- a version that is new makes a name more, where it has one

@@ -19,14 +19,14 @@ use Rattle.gs_reclaim.proofs.Reclaiming.{seat_pinned, unneeded_one, none_retired
 use Rattle.gs_index.specs.declared.entries.Entry.{Entry}
 use Rattle.gs_index.specs.Indexes.{Indexed, entry_at}
 use Rattle.gs_records.specs.Records.{Record, free, opened, unused, kept, Recorded, record_at}
-use Rattle.gs_records.specs.Waste.{lifetime_of, lifetimes, waste_in}
+use Rattle.gs_records.specs.Waste.{lifetime_of, lifetimes, waste_in, is_opened, open_count}
 use Rattle.gs_records.specs.Stored.{records_by, said_of, StandsForRecord, IsStored}
-use Rattle.gs_records.specs.Reclaims.{ReclaimsRecords}
+use Rattle.gs_records.specs.Reclaims.{StaysOrGoes, ReclaimsRecords}
 use Rattle.gs_records.specs.Sweeps.{AreStored, KeepsStored, Drops, AsideIsNeeded, Sweeps, Swept}
-use Rattle.gs_records.proofs.Sums.{sum_agrees, wasted, waste_is}
+use Rattle.gs_records.proofs.Sums.{sum_agrees, wasted, waste_is, count_agrees}
 use Rattle.gs_records.proofs.Keeping.{free_without}
 use Rattle.gs_records.proofs.Dropping.{pinned_needed}
-use Rattle.gs_records.proofs.Sweeping.{dead_life, dead_records, dead_stored}
+use Rattle.gs_records.proofs.Sweeping.{dead_life, dead_records, dead_stored, not_opened}
 
 -- whether a mark says a death
 data Said (m : NodeMark) : Type 0 where
@@ -193,6 +193,14 @@ module _ (v : Pins) (x y : Indexed) (p0 p p1 q : Nodes) (n freed : ℕ) (left : 
     none_aside = none;
   }
 
+-- what is free now was not open
+opens_dropped : (pins : List (Option ℕ)) (old new : List Record) → ((m : ℕ) → StaysOrGoes pins (record_at old m) (record_at new m)) → open_count new ≡ open_count old
+opens_dropped pins old new each = count_agrees is_opened old new refl (λ m. go (record_at old m) (record_at new m) (each m))
+  where
+    go : (r s : Record) → StaysOrGoes pins r s → is_opened s ≡ is_opened r
+    go r s (inl same) = ap is_opened same
+    go r s (inr gone) = ap is_opened gone.0 ∙ sym (not_opened r gone.1.life gone.1.only)
+
 -- what the contract says of it
 pub reclaimed : (pins : List (Option ℕ)) (n freed : ℕ) (left : Bool) (x y : Indexed) (p q : Nodes) → Swept pins n freed left x y p q → (a b : Recorded) → a.records ≡ records_by x p → b.records ≡ records_by y q → b.latest ≡ a.latest → b.limit ≡ a.limit → ReclaimsRecords pins n freed left a b
 reclaimed pins n freed left x y p q w a b from to latest limit =
@@ -202,6 +210,7 @@ reclaimed pins n freed left x y p q w a b from to latest limit =
       each = drops.each;
       versions = drops.versions;
       now = drops.now;
+      opens = opens_dropped pins a.records b.records drops.each;
       latest = latest;
       limit = limit;
     }

@@ -1,5 +1,5 @@
 -- What a number must have to stand for a record, and what is true of all records after one has changed.
-use Rattle.std.proofs.Common.{◌≡◌, ℕ, suc, ◌+◌, ◌-◌, ◌<◌, ◌≤◌, false, cond, List, [], ◌∷◌, length, drop, get_or, Option, Some, None, refl, sym, ap, subst, ◌∙◌, arith}
+use Rattle.std.proofs.Common.{◌≡◌, ℕ, suc, ◌+◌, ◌-◌, ◌<◌, ◌≤◌, false, List, [], ◌∷◌, length, drop, get_or, Option, Some, None, refl, sym, ap, subst, ◌∙◌, arith}
 use Rattle.std.proofs.lemmas.Bool.{cases_eq, cases_lt}
 use Rattle.std.proofs.lemmas.List.{get_or_past}
 use Rattle.std.proofs.Common.{inl, inr}
@@ -18,7 +18,7 @@ use Rattle.std.proofs.lemmas.List.Sums.{count_by-le-length}
 use Rattle.gs_records.specs.Stored.{is_made, records_of, records_by, HasNode, StandsForRecord, IsStored, ChangesOneNumber}
 use Rattle.gs_records.proofs.Lifetimes.{once_at, once_current}
 use Rattle.gs_records.proofs.Turning.{none_bare, graphs_turned, single_turned, dated_turned}
-use Rattle.gs_records.proofs.Sums.{gains_turned, open_turned}
+use Rattle.gs_records.proofs.Sums.{gains_turned, uses_one}
 use Rattle.gs_records.proofs.Storing.{turns_stored, all_stand}
 
 some_not_none : (n : Node) (o : Option Node) → o ≡ Some n → o ≡ None → ⊥
@@ -90,7 +90,7 @@ module _ (x : Indexed) (p q : Nodes) (opens latest n : ℕ) (s : IsStored x p op
   given_turns = turns x x p q opens (opens - 1) latest n unused s gives_changes
 
   given_open : open_count (records_by x q) + 1 ≡ open_count (records_by x p)
-  given_open = omega (arith, open_turned (records_by x p) (records_by x q) n unused given_turns, ap (λ r. cond {A = ℕ} (is_opened r) 1 0) is)
+  given_open = (uses_one (records_by x p) (records_by x q) n unused is refl refl given_turns).opens
 
   pub given_current : current (records_by x q) ≡ current (records_by x p)
   given_current = (keeps_graphs (records_by x p) (records_by x q) n unused s.single given_turns (ap is_kept is) refl).now
@@ -110,6 +110,7 @@ module _ (x : Indexed) (p q : Nodes) (opens latest n : ℕ) (s : IsStored x p op
         turns = turn;
         graphs = keeps_graphs a.records b.records n unused single turn (ap is_kept was) refl;
         waste = gains_turned a.records b.records n unused opened was refl turn;
+        counts = uses_one a.records b.records n unused was refl refl turn;
         listed = listed;
         latest = same;
         limit = limit;

@@ -7,13 +7,14 @@ use Rattle.gs_term.specs.declared.names.Target.{Target}
 use Rattle.gs_event.specs.Waste.{Lifetime}
 use Rattle.gs_event.specs.Steps.{EndsAt}
 use Rattle.gs_index.specs.declared.entries.Entry.{Entry}
-use Rattle.gs_catalogue.specs.Catalogues.{with_version}
+use Rattle.gs_catalogue.specs.Catalogues.{version_at, with_version}
 use Rattle.gs_records.specs.Records.{Record, free, opened, unused, kept, record_at, has_at, is_of, is_current}
 use Rattle.gs_records.specs.Graphs.{graphs_where, graphs_at, current, with_record}
 use Rattle.gs_records.specs.Kept.{AreSingle, AreDated, HasNoCurrent}
-use Rattle.gs_records.specs.Calls.{endings}
+use Rattle.gs_records.specs.Calls.{endings, is_nothing, records_for, EndsCurrent}
+use Rattle.gs_records.specs.Versions.{AreVersions}
 use Rattle.gs_records.specs.Laws.{IsOneAt}
-use Rattle.gs_records.proofs.Found.{Found, target_same}
+use Rattle.gs_records.proofs.Found.{Found, Looked, has, lacks, looked, target_same}
 use Rattle.gs_records.proofs.Lifetimes.{first_true, second_true, same_Bool, has_from, has_lives, lives_none, lives_past, once_current}
 
 -- the versions by two tests that say the same of each record
@@ -34,7 +35,7 @@ graphs_last v latest rs dated le = graphs_same (has_at v) is_current rs (λ n e 
     (λ h. lives_past v latest e.birth e.death d.died le (has_lives v e h))
     (λ now. has_from v e (omega (arith, d.born)) (lives_none v e.death now)))
 
-single_rest : (r : Record) (rs : List Record) → AreSingle (r ∷ rs) → AreSingle rs
+pub single_rest : (r : Record) (rs : List Record) → AreSingle (r ∷ rs) → AreSingle rs
 single_rest r rs s v m n e f p q same a b = let one = s v (suc m) (suc n) e f p q same a b in omega (arith, one)
 
 dated_rest : (latest : ℕ) (r : Record) (rs : List Record) → AreDated latest (r ∷ rs) → AreDated latest rs
@@ -56,7 +57,7 @@ ends_nothing t death (kept e ∷ rs) none = elim (cases_Bool (is_of t e && is_cu
 ]
 
 -- after a current record of the graph there is none
-none_after : (t : Target) (e : Entry) (rs : List Record) → AreSingle (kept e ∷ rs) → (is_of t e && is_current e) ≡ true → HasNoCurrent rs t
+pub none_after : (t : Target) (e : Entry) (rs : List Record) → AreSingle (kept e ∷ rs) → (is_of t e && is_current e) ≡ true → HasNoCurrent rs t
 none_after t e rs single here n f at same now = absurd (omega (arith, once_current (kept e ∷ rs) single t first other))
   where
     first : Found is_current (kept e ∷ rs) t
@@ -89,3 +90,13 @@ all_end latest commit t (kept e ∷ rs) d lt = go (all_end latest commit t rs (d
 -- one record ends at most, which was born before
 pub commit_ends_one : (latest commit : ℕ) (t : Target) (rs : List Record) → AreSingle rs → AreDated latest rs → latest < commit → IsOneAt commit (endings t commit rs)
 commit_ends_one latest commit t rs single dated lt = record { few = one_ends t commit rs single; ended = all_end latest commit t rs dated lt }
+
+-- it is the graph's current record, where there is one
+pub ends_current : (latest commit : ℕ) (t : Target) (rs : List Record) → AreSingle rs → AreDated latest rs → AreVersions rs → latest < commit → EndsCurrent rs t commit
+ends_current latest commit t rs single dated versions lt = record { few = go (looked is_current rs t); ended = all_end latest commit t rs dated lt }
+  where
+    go : Looked is_current rs t → length (endings t commit rs) ≤ records_for t (version_at (current rs) t)
+    go (has f e) =
+        let something : is_nothing t f.entry.version ≡ false = ap (λ u. is_nothing u f.entry.version) (sym f.same) ∙ (versions f.number f.entry f.at).something in
+        omega (arith, one_ends t commit rs single, ap (records_for t) e, ap (λ b. cond {A = ℕ} b 0 1) something)
+    go (lacks none e) = omega (arith, ap length (ends_nothing t commit rs (λ n f at same now. none (record { number = n; entry = f; at = at; passes = now; same = same }))))

@@ -23,3 +23,4 @@ pub mod Sweeping
 pub mod Finishing
 pub mod Versions
 pub mod Counting
+pub mod Using

@@ -1,5 +1,5 @@
 -- An open record is that of a graph.
-use Rattle.std.proofs.Common.{◌≡◌, ◌≢◌, ℕ, ◌+◌, ◌-◌, ◌<◌, ◌≤◌, false, cond, ◌||◌, ◌==◌, length, get_or, slice_set, Some, None, is_some, IsSome, refl, sym, ap, subst, ◌∙◌, inl, inr, arith, get_or-set_same, get_or-set_other}
+use Rattle.std.proofs.Common.{◌≡◌, ◌≢◌, ℕ, ◌+◌, ◌-◌, ◌<◌, ◌≤◌, false, ◌||◌, ◌==◌, length, get_or, slice_set, Some, None, is_some, IsSome, refl, sym, ap, subst, ◌∙◌, inl, inr, arith, get_or-set_same, get_or-set_other}
 use Rattle.std.proofs.lemmas.Bool.{cases_eq, lt-ltb, le-ltb, ne_eqb}
 use Rattle.std.proofs.lemmas.List.{length-set}
 use Rattle.gs_term.specs.declared.names.Target.{Target}
@@ -12,11 +12,11 @@ use Rattle.gs_index.specs.Indexes.{Indexed, entry_at, is_listed, with_number}
 use Rattle.gs_records.specs.Records.{is_kept, opened, kept, Recorded, record_at, Turns}
 use Rattle.gs_catalogue.specs.Catalogues.{with_version}
 use Rattle.gs_records.specs.Graphs.{current}
-use Rattle.gs_records.specs.Waste.{is_opened, open_count}
+use Rattle.gs_records.specs.Waste.{open_count}
 use Rattle.gs_records.specs.Kept.{AreSingle, AreDated, HasNoCurrent}
 use Rattle.gs_records.specs.Calls.{Places}
 use Rattle.gs_records.specs.Stored.{is_made, records_by, StandsForRecord, IsStored, ChangesOneNumber}
-use Rattle.gs_records.proofs.Sums.{gains_turned, open_turned}
+use Rattle.gs_records.proofs.Sums.{gains_turned, uses_one}
 use Rattle.gs_records.proofs.Storing.{turns_stored, all_stand}
 use Rattle.gs_records.proofs.Placing.{graphs_at-placed, single_placed, dated_placed, current-placed}
 use Rattle.gs_records.proofs.Listing.{listed_with, same_number}
@@ -75,7 +75,7 @@ module _ (x : Indexed) (p : Nodes) (opens latest n : ℕ) (s : IsStored x p open
     was_bare = ap is_kept is
 
     made_open : open_count (records_by y q) + 1 ≡ open_count (records_by x p)
-    made_open = omega (arith, open_turned (records_by x p) (records_by y q) n (kept (made_entry t v latest)) made_turns, ap (λ r. cond {A = ℕ} (is_opened r) 1 0) is)
+    made_open = (uses_one (records_by x p) (records_by y q) n (kept (made_entry t v latest)) is refl refl made_turns).opens
 
     pub made_some : 0 < opens
     made_some = omega (arith, made_open, s.counted)
@@ -108,6 +108,7 @@ module _ (x : Indexed) (p : Nodes) (opens latest n : ℕ) (s : IsStored x p open
           versions = λ w lt. graphs_at-placed a.records b.records n e turn (ap is_kept at) single dated refl no_current w lt;
           now = current-placed a.records b.records n e turn (ap is_kept at) single dated refl no_current;
           waste = gains_turned a.records b.records n (kept e) opened at refl turn;
+          counts = uses_one a.records b.records n (kept e) at refl refl turn;
           latest = same;
           limit = limit;
         }

@@ -8,11 +8,11 @@ use Rattle.gs_index.specs.Ages.{blank_entry}
 use Rattle.gs_index.specs.Indexes.{Indexed, entry_at}
 use Rattle.gs_records.specs.Records.{is_kept, free, opened, Recorded, record_at, Turns}
 use Rattle.gs_records.specs.Graphs.{current}
-use Rattle.gs_records.specs.Waste.{is_opened}
+use Rattle.gs_records.specs.Waste.{is_opened, is_in_use}
 use Rattle.gs_records.specs.Kept.{AreSingle}
 use Rattle.gs_records.specs.Calls.{Opens}
 use Rattle.gs_records.specs.Stored.{records_by, IsStored, ChangesOneNumber, GrowsByEntry}
-use Rattle.gs_records.proofs.Sums.{gains_turned, open_turned}
+use Rattle.gs_records.proofs.Sums.{waste_same, count_turned}
 use Rattle.gs_records.proofs.Keeping.{free_without, free_birth, keeps_graphs, turns, stored_bare}
 
 zero_or : (n : ℕ) → (n ≡ 0) ⊎ (0 < n)
@@ -59,7 +59,7 @@ module _ (x y : Indexed) (p q r : Nodes) (opens latest n : ℕ) (node : Node) (s
 
   pub opened_stored : IsStored y r (opens + 1) latest
   opened_stored = stored_bare x y p r opens (opens + 1) latest n opened s opens_changes refl alike.listed (alike.entries n) s.counted
-      (omega (arith, s.counted, open_turned (records_by x p) (records_by y r) n opened opened_turns, ap (λ z. cond {A = ℕ} (is_opened z) 1 0) was_free))
+      (omega (arith, s.counted, count_turned is_opened (records_by x p) (records_by y r) n opened refl opened_turns, ap (λ z. cond {A = ℕ} (is_opened z) 1 0) was_free))
       room few
 
   pub opened_current : current (records_by y r) ≡ current (records_by x p)
@@ -75,7 +75,9 @@ module _ (x y : Indexed) (p q r : Nodes) (opens latest n : ℕ) (node : Node) (s
         was = was;
         turns = turn;
         graphs = keeps_graphs a.records b.records n opened single turn (ap is_kept was) refl;
-        waste = gains_turned a.records b.records n opened free was refl turn;
+        waste = waste_same a.records b.records n opened free was refl refl turn;
+        used = omega (arith, count_turned is_in_use a.records b.records n opened refl turn, ap (λ z. cond {A = ℕ} (is_in_use z) 1 0) was);
+        opens = omega (arith, count_turned is_opened a.records b.records n opened refl turn, ap (λ z. cond {A = ℕ} (is_opened z) 1 0) was);
         listed = listed;
         latest = same;
         limit = limit;

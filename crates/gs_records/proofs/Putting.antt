@@ -7,10 +7,10 @@ use Rattle.gs_term.specs.declared.names.Target.TheVariants.{Default, Named}
 use Rattle.gs_event.specs.Waste.{Lifetime}
 use Rattle.gs_catalogue.specs.declared.versions.GraphVersion.{GraphVersion}
 use Rattle.gs_catalogue.specs.Catalogues.{GraphVersions, version_at, with_version}
-use Rattle.gs_records.specs.Records.{opened, unused, Recorded, record_at, ended}
+use Rattle.gs_records.specs.Records.{Record, opened, unused, Recorded, record_at, ended}
 use Rattle.gs_records.specs.Graphs.{current, without_version}
 use Rattle.gs_records.specs.Waste.{lifetimes, waste_in}
-use Rattle.gs_records.specs.Calls.{Gains, endings, made_record, is_nothing, placed, GivesUp, RemovesVersion, Places, MakesCurrent}
+use Rattle.gs_records.specs.Calls.{Gains, endings, made_record, is_nothing, placed, KeepsCounts, UsesOne, GivesUp, RemovesVersion, Places, MakesCurrent}
 use Rattle.gs_records.proofs.Found.{same_versions, cases_target, version_at-with, version_at-with_other, version_at-without_other}
 use Rattle.gs_records.proofs.Lifetimes.{first_true, second_true}
 
@@ -36,6 +36,9 @@ with_nothing g (Named name) v e = absurd (true≢false (sym e))
 gains_both : (a b c : List Lifetime) (more last : List Lifetime) → Gains a b more → Gains b c last → Gains a c (more ++ last)
 gains_both a b c more last first second f = omega (arith, first f, second f, sum_by-append f more last)
 
+uses_after : (a b c : List Record) → KeepsCounts a b → UsesOne b c → UsesOne a c
+uses_after a b c k u = record { used = u.used ∙ k.used; opens = u.opens ∙ k.opens }
+
 -- an open record is open still once another ended
 pub open_still : (a b : Recorded) (n : ℕ) (t : Target) (commit : ℕ) → record_at a.records n ≡ opened → RemovesVersion a b t commit → record_at b.records n ≡ opened
 open_still a b n t commit is r = r.ends n ∙ ap (ended t commit) is
@@ -49,6 +52,8 @@ puts_nothing a b c n t v commit nothing r g =
       versions = λ w lt. g.graphs.versions w ∙ r.versions w lt;
       now = g.graphs.now ∙ r.now ∙ with_nothing (current a.records) t v nothing;
       waste = subst (λ x. Gains (waste_in a.records) (waste_in c.records) (endings t commit a.records ++ lifetimes x)) (sym is) (gains_both (waste_in a.records) (waste_in b.records) (waste_in c.records) (endings t commit a.records) (lifetimes unused) r.waste g.waste);
+      last = r.last;
+      counts = uses_after a.records b.records c.records r.counts g.counts;
       latest = g.latest ∙ r.latest;
       limit = g.limit ∙ r.limit;
     }
@@ -62,6 +67,8 @@ puts_made a b c n t v commit something r p =
       versions = λ w lt. p.versions w (omega (arith, lt, r.latest)) ∙ r.versions w lt;
       now = p.now ∙ ap (λ g. with_version g t v) r.now ∙ with-without (current a.records) t v;
       waste = subst (λ x. Gains (waste_in a.records) (waste_in c.records) (endings t commit a.records ++ lifetimes x)) (sym is) (gains_both (waste_in a.records) (waste_in b.records) (waste_in c.records) (endings t commit a.records) [] r.waste p.waste);
+      last = r.last;
+      counts = uses_after a.records b.records c.records r.counts p.counts;
       latest = p.latest ∙ r.latest;
       limit = p.limit ∙ r.limit;
     }

@@ -1,5 +1,5 @@
 -- The current record of a graph ends.
-use Rattle.std.proofs.Common.{is_some, nat_lt, ◌≡◌, ◌≢◌, ℕ, ◌<◌, true, false, cond, List, length, get_or, slice_set, Option, Some, None, is_none, IsSome, refl, sym, ap, subst, ◌∙◌, inl, inr, arith, get_or-set_same, get_or-set_other, true≢false}
+use Rattle.std.proofs.Common.{is_some, nat_lt, ◌≡◌, ◌≢◌, ℕ, ◌<◌, true, false, List, length, get_or, slice_set, Option, Some, None, is_none, IsSome, refl, sym, ap, subst, ◌∙◌, inl, inr, arith, get_or-set_same, get_or-set_other, true≢false}
 use Rattle.std.proofs.lemmas.Bool.{cases_eq}
 use Rattle.std.proofs.lemmas.List.{length-set}
 use Rattle.gs_term.specs.declared.names.Target.{Target}
@@ -9,13 +9,12 @@ use Rattle.gs_index.specs.declared.entries.Entry.{Entry}
 use Rattle.gs_index.specs.Indexes.{Indexed, entry_at, is_listed, with_death as died}
 use Rattle.gs_records.specs.Records.{Record, free, opened, unused, kept, Recorded, record_at, is_current, ended_entry, ended, Turns, Ends}
 use Rattle.gs_records.specs.Graphs.{current, without_version}
-use Rattle.gs_records.specs.Waste.{is_opened}
 use Rattle.gs_records.specs.Kept.{AreSingle, HasNoCurrent}
-use Rattle.gs_records.specs.Calls.{RemovesVersion}
+use Rattle.gs_records.specs.Calls.{EndsCurrent, RemovesVersion}
 use Rattle.gs_records.specs.Stored.{records_by, HasNode, said_of, StandsForRecord, IsStored, ChangesOneNumber}
 use Rattle.gs_records.proofs.Lifetimes.{EndedCases, ends, stays, ended_cases, once_current}
 use Rattle.gs_records.proofs.Ending.{graphs_at-ended, current-ended_records, none_current, single_ended, dated_ended}
-use Rattle.gs_records.proofs.Sums.{gains_ended, open_turned}
+use Rattle.gs_records.proofs.Sums.{gains_ended, counts_ended}
 use Rattle.gs_records.proofs.Storing.{turns_stored, all_stand}
 use Rattle.gs_records.proofs.Keeping.{stands_at, used_within}
 
@@ -54,13 +53,15 @@ ends_one old new t death n e single at same none turn m = elim (cases_eq m n) [
 ]
 
 -- what follows from that alone
-pub removed : (a b : Recorded) (t : Target) (commit : ℕ) → AreSingle a.records → Ends a.records b.records t commit → b.listed ≡ a.listed → b.latest ≡ commit → b.limit ≡ a.limit → RemovesVersion a b t commit
-removed a b t commit single is listed latest limit = record {
+pub removed : (a b : Recorded) (t : Target) (commit : ℕ) → AreSingle a.records → EndsCurrent a.records t commit → Ends a.records b.records t commit → b.listed ≡ a.listed → b.latest ≡ commit → b.limit ≡ a.limit → RemovesVersion a b t commit
+removed a b t commit single last is listed latest limit = record {
   ends = is;
   versions = λ v lt. graphs_at-ended a.records b.records t commit is v single lt;
   now = current-ended_records a.records b.records t commit is single;
   none = none_current a.records b.records t commit is;
   waste = gains_ended a.records b.records t commit is;
+  last = last;
+  counts = counts_ended a.records b.records t commit is;
   listed = listed;
   latest = latest;
   limit = limit;
@@ -135,7 +136,7 @@ module _ (x y : Indexed) (p q : Nodes) (opens latest commit n : ℕ) (t : Target
       many = end_changes.many;
       stand = all_stand x y p q n (kept (died e commit)) s.many s.stand end_changes;
       lists = λ m. ap (is_listed m) listed ∙ s.lists m ∙ ap (nat_lt 0) (sym (birth_same m));
-      counted = s.counted ∙ omega (arith, open_turned (records_by x p) (records_by y q) n (kept (died e commit)) end_turns, ap (λ z. cond {A = ℕ} (is_opened z) 1 0) at);
+      counted = s.counted ∙ sym (counts_ended (records_by x p) (records_by y q) t commit end_ends).opens;
       room = omega (arith, s.room, spare);
       single = single_ended (records_by x p) (records_by y q) t commit end_ends s.single;
       dated = dated_ended (records_by x p) (records_by y q) t commit end_ends latest lt s.dated;

@@ -1,14 +1,15 @@
--- Sums over records: waste, and how many are open.
-use Rattle.std.proofs.Common.{◌≡◌, ◌≢◌, ℕ, zero, suc, ◌+◌, Bool, true, false, cond, ◌&&◌, List, [], ◌∷◌, Option, Some, None, is_none, true≢false, refl, sym, ap, ◌∙◌, arith}
+-- Sums over records: waste, and how many are open or in use.
+use Rattle.std.proofs.Common.{◌≡◌, ◌≢◌, ℕ, zero, suc, ◌+◌, Bool, true, false, cond, ◌&&◌, List, [], ◌∷◌, ◌++◌, count_by, Option, Some, None, is_none, true≢false, refl, sym, ap, ◌∙◌, inl, inr, arith}
 use Rattle.std.specs.List.{sum_by}
+use Rattle.std.proofs.lemmas.Bool.{cases_eq}
 use Rattle.std.proofs.lemmas.List.Sums.{sum_by-cons, sum_by-append}
 use Rattle.gs_term.specs.declared.names.Target.{Target}
 use Rattle.gs_event.specs.Waste.{Lifetime}
 use Rattle.gs_index.specs.declared.entries.Entry.{Entry}
 use Rattle.gs_index.specs.Indexes.{with_death as died}
 use Rattle.gs_records.specs.Records.{Record, free, opened, unused, kept, record_at, is_of, is_current, ended, Turns, Ends}
-use Rattle.gs_records.specs.Waste.{lifetime_of, lifetimes, waste_in, is_opened, open_count}
-use Rattle.gs_records.specs.Calls.{Gains, ending, endings}
+use Rattle.gs_records.specs.Waste.{lifetime_of, lifetimes, waste_in, is_opened, is_in_use}
+use Rattle.gs_records.specs.Calls.{Gains, ending, endings, KeepsCounts, UsesOne}
 use Rattle.gs_records.proofs.Lifetimes.{second_true}
 
 -- where two functions agree at each number, and are 0 where it is free, so do their sums
@@ -84,6 +85,51 @@ gains_ended old new t death is f =
     one unused = omega arith
     one (kept e) = at e (is_of t e && is_current e) (λ h. second_true _ _ h)
 
--- how many are open
-pub open_turned : (old new : List Record) (n : ℕ) (r : Record) → Turns old new n r → open_count new + cond {A = ℕ} (is_opened (record_at old n)) 1 0 ≡ open_count old + cond {A = ℕ} (is_opened r) 1 0
-open_turned old new n r turn = omega (arith, sum_turned (λ x. cond {A = ℕ} (is_opened x) 1 0) n old new refl turn.others, ap (λ x. cond {A = ℕ} (is_opened x) 1 0) turn.changed)
+-- where no number has another lifetime, the waste is the same
+waste_agrees : (xs ys : List Record) → ((m : ℕ) → lifetimes (record_at ys m) ≡ lifetimes (record_at xs m)) → waste_in ys ≡ waste_in xs
+waste_agrees [] [] same = refl
+waste_agrees [] (y ∷ ys) same = ap (λ ls. ls ++ waste_in ys) (same 0) ∙ waste_agrees [] ys (λ m. same (suc m))
+waste_agrees (x ∷ xs) [] same = waste_agrees xs [] (λ m. same (suc m)) ∙ ap (λ ls. ls ++ waste_in xs) (same 0)
+waste_agrees (x ∷ xs) (y ∷ ys) same = λ i. same 0 i ++ waste_agrees xs ys (λ m. same (suc m)) i
+
+-- nor is it another where one number has no lifetime, before and after
+pub waste_same : (old new : List Record) (n : ℕ) (r s : Record) → record_at old n ≡ s → lifetimes s ≡ [] → lifetimes r ≡ [] → Turns old new n r → waste_in new ≡ waste_in old
+waste_same old new n r s was before after turn = waste_agrees old new (λ m. elim (cases_eq m n) [
+  | inl here ↦ ap (λ k. lifetimes (record_at new k)) here ∙ ap lifetimes turn.changed ∙ after ∙ sym before ∙ sym (ap lifetimes was) ∙ sym (ap (λ k. lifetimes (record_at old k)) here)
+  | inr ne ↦ ap lifetimes (turn.others m ne)
+])
+
+-- how many pass a test that is false of what is free
+pub count_turned : (test : Record → Bool) (old new : List Record) (n : ℕ) (r : Record) → test free ≡ false → Turns old new n r → count_by test new + cond {A = ℕ} (test (record_at old n)) 1 0 ≡ count_by test old + cond {A = ℕ} (test r) 1 0
+count_turned test old new n r none turn = omega (arith, sum_turned (λ x. cond {A = ℕ} (test x) 1 0) n old new (ap (λ b. cond {A = ℕ} b 1 0) none) turn.others, ap (λ x. cond {A = ℕ} (test x) 1 0) turn.changed)
+
+pub count_agrees : (test : Record → Bool) (old new : List Record) → test free ≡ false → ((m : ℕ) → test (record_at new m) ≡ test (record_at old m)) → count_by test new ≡ count_by test old
+count_agrees test old new none same =
+    let zero_free = ap (λ b. cond {A = ℕ} b 1 0) none in
+    sum_agrees (λ x. cond {A = ℕ} (test x) 1 0) (λ x. cond {A = ℕ} (test x) 1 0) old new zero_free zero_free (λ m. ap (λ b. cond {A = ℕ} b 1 0) (same m))
+
+-- a record that ends is in use still
+pub counts_ended : (old new : List Record) (t : Target) (death : ℕ) → Ends old new t death → KeepsCounts old new
+counts_ended old new t death is = record {
+  used = count_agrees is_in_use old new refl (λ m. ap is_in_use (is m) ∙ used_still (record_at old m));
+  opens = count_agrees is_opened old new refl (λ m. ap is_opened (is m) ∙ open_still (record_at old m));
+}
+  where
+    used_still : (r : Record) → is_in_use (ended t death r) ≡ is_in_use r
+    used_still free = refl
+    used_still opened = refl
+    used_still unused = refl
+    used_still (kept e) = refl
+
+    open_still : (r : Record) → is_opened (ended t death r) ≡ is_opened r
+    open_still free = refl
+    open_still opened = refl
+    open_still unused = refl
+    open_still (kept e) = refl
+
+-- the number of an open record stands for something else that is in use
+pub uses_one : (old new : List Record) (n : ℕ) (r : Record) → record_at old n ≡ opened → is_in_use r ≡ true → is_opened r ≡ false → Turns old new n r → UsesOne old new
+uses_one old new n r was used closed turn = record {
+  used = omega (arith, count_turned is_in_use old new n r refl turn, ap (λ x. cond {A = ℕ} (is_in_use x) 1 0) was, ap (λ b. cond {A = ℕ} b 1 0) used);
+  opens = omega (arith, count_turned is_opened old new n r refl turn, ap (λ x. cond {A = ℕ} (is_opened x) 1 0) was, ap (λ b. cond {A = ℕ} b 1 0) closed);
+}

@@ -22,7 +22,7 @@ use Rattle.gs_records.specs.Reclaims.{IsUnneeded}
 use Rattle.gs_records.specs.Sweeps.{AreStored, Lets, Stays, SettlesNumber, Drops, Sweeps}
 use Rattle.gs_records.proofs.Storing.{get_or_drop, turns_stored, all_stand}
 use Rattle.gs_records.proofs.Turning.{single_turned, dated_turned}
-use Rattle.gs_records.proofs.Sums.{open_turned}
+use Rattle.gs_records.proofs.Sums.{count_turned}
 use Rattle.gs_records.proofs.Removing.{plain_undead}
 use Rattle.gs_records.proofs.Dropping.{not_pinned, drops_none, drops_more}
 
@@ -100,7 +100,7 @@ dead_life unused o m e death whole n s said found =
 dead_life (kept f) o m e death whole n s said found =
     kept_life f.birth n.birth f.death death whole (sym s.2 ∙ said) (sym s.1.birth_is ∙ ap (λ (k : Node). k.birth) (some_node s.1.node n (sym s.1.found ∙ found)))
 
-not_opened : (r : Record) (l : Lifetime) → lifetimes r ≡ l ∷ [] → is_opened r ≡ false
+pub not_opened : (r : Record) (l : Lifetime) → lifetimes r ≡ l ∷ [] → is_opened r ≡ false
 not_opened free l e = refl
 not_opened opened l e = absurd (cc)
 not_opened unused l e = refl
@@ -135,7 +135,7 @@ module _ (x y : Indexed) (p p1 q : Nodes) (r : Retired) (n : Node) (u : Unlists 
     many = freed_changes.many;
     stand = all_stand x y p q r.id free s.many s.stand freed_changes;
     lists = l.blanks.lists;
-    counted = omega (arith, s.counted, open_turned (records_by x p) (records_by y q) r.id free freed_turns, ap (λ b. cond {A = ℕ} b 1 0) (not_opened (record_at (records_by x p) r.id) (record { birth = n.birth; death = r.death }) freed_life));
+    counted = omega (arith, s.counted, count_turned is_opened (records_by x p) (records_by y q) r.id free refl freed_turns, ap (λ b. cond {A = ℕ} b 1 0) (not_opened (record_at (records_by x p) r.id) (record { birth = n.birth; death = r.death }) freed_life));
     room = omega (arith, s.room, l.blanks.spare);
     single = single_turned (records_by x p) (records_by y q) r.id free freed_turns refl s.single;
     dated = dated_turned latest (records_by x p) (records_by y q) r.id free freed_turns refl s.dated;

@@ -1,5 +1,5 @@
 -- What the calls do to the records.
-use Rattle.std.specs.Prelude.{◌≡◌, ◌≢◌, ℕ, ◌+◌, ◌<◌, ◌≤◌, length, Bool, true, false, ◌&&◌, nat_eq, is_none, if◌then◌else◌, List, [], ◌∷◌, ◌++◌, MatchOption, Option, None}
+use Rattle.std.specs.Prelude.{◌≡◌, ◌≢◌, ℕ, ◌+◌, ◌<◌, ◌≤◌, length, Bool, true, false, ◌&&◌, nat_eq, is_none, if◌then◌else◌, List, [], ◌∷◌, ◌++◌, MatchOption, Option, Some, None}
 use Rattle.std.specs.List.{All, sum_by}
 use Rattle.gs_term.specs.declared.names.Target.{Target}
 use Rattle.gs_term.specs.declared.names.Target.TheVariants.{Default, Named}

@@ -89,8 +89,6 @@ impl Records {
         ensures parts { AreUsed self.now.records }
         ensures few { result ≤ last_node + 1 }
     {
-        // The length says of the listed numbers that they are in order.
-        let _all = self.index.len();
         self.pool.nodes_in_use()
     }
 

@@ -6,6 +6,7 @@ use Rattle.gs_records.proofs.Removing.{ends_none, removed, end_ends, end_current
 use Rattle.gs_index.specs.declared.entries.Entry.{Entry}
 use Rattle.gs_index.specs.Indexes.{entry_at}
 use Rattle.gs_records.proofs.Seeking.{version_current}
+use Rattle.gs_records.proofs.Lasting.{ends_current}
 use Rattle.gs_records.proofs.Versions.{versions_ended}
 use Rattle.gs_records.proofs.Counting.{counted_fewer, names_enough, triples_enough}
 use Rattle.gs_records.proofs.records.Records.remove.Goals as goal
@@ -16,7 +17,9 @@ returns-in_default c =
     let t = c.args.target.now in
     let finds : HasNoCurrent c.args.self.now.records t = subst (FindsCurrent c.args.self.now.records t) c.in_default.is c.current.ensures in
     let none : HasNoCurrent (records_by s.index s.pool) t = rw (← c.self.view_is) at finds in
-    rw (← c.self.view_is) (removed _ _ t c.args.commit c.self.invariant.stored.single (ends_none (records_by s.index s.pool) t c.args.commit none) refl refl refl)
+    let later : s.latest < c.args.commit = rw (← c.self.view_is) at c.requires in
+    let last = ends_current s.latest c.args.commit t (records_by s.index s.pool) c.self.invariant.stored.single c.self.invariant.stored.dated c.self.invariant.versions later in
+    rw (← c.self.view_is) (removed _ _ t c.args.commit c.self.invariant.stored.single last (ends_none (records_by s.index s.pool) t c.args.commit none) refl refl refl)
 
 pub invariant_of-self-2 : goal.invariant_of-self-2
 invariant_of-self-2 c =
@@ -64,8 +67,10 @@ returns c =
     let n = c.in-Some.number in
     let marks = c.retire_one.ensures.marks in
     let finds : FindsCurrent (records_by s.index s.pool) c.args.target.now (Some n) = rw (← c.self.view_is) at c.in-Some.ensures in
+    let later : s.latest < c.args.commit = rw (← c.self.view_is) at c.requires in
     rw (← c.self.view_is) (
     removed _ _ c.args.target.now c.args.commit c.self.invariant.stored.single
+    (ends_current s.latest c.args.commit c.args.target.now (records_by s.index s.pool) c.self.invariant.stored.single c.self.invariant.stored.dated c.self.invariant.versions later)
     (end_ends s.index c.end.new.self s.pool c.retire_one.new.self s.opened s.latest c.args.commit n c.args.target.now finds.entry c.self.invariant.stored finds.at finds.same finds.lives c.end.ensures.entries c.end.ensures.listed c.end.ensures.spare marks)
     c.end.ensures.listed refl marks.limit
     )
