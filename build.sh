@@ -87,10 +87,12 @@ def prove(copies, names, below, running):
     while left or running:
         ready = sorted((it for it in left if done.issuperset(below[it])), key=lambda it: -heights[it])
         idle = [it for it in copies if it not in [copy for _, _, copy in running.values()]]
+        # the last crates stand one upon the other, and processors would be idle beside them
+        few = len(left) <= 2 * len(copies)
         for name, copy in zip(ready, idle):
             left.remove(name)
             log = tempfile.TemporaryFile("w+")
-            words = ["rt", "lib", "--jobs", "1"]
+            words = ["rt", "lib", "--jobs", "2" if few else "1"]
             child = subprocess.Popen(words, cwd=f"{copy}/crates/{name}", stdin=subprocess.DEVNULL, stdout=log, stderr=log, start_new_session=True)
             running[name] = child, log, copy
         time.sleep(0.2)
