@@ -17,6 +17,8 @@ use Rattle.gs_catalogue.specs.declared.versions.GraphVersion.{GraphVersion}
 use Rattle.gs_catalogue.specs.Catalogues.{GraphVersions, empty_version, version_at, with_version, without_name}
 use Rattle.gs_records.specs.Records.{Recorded}
 use Rattle.gs_records.specs.Graphs.{without_version}
+use Rattle.gs_records.specs.Waste.{waste_in}
+use Rattle.gs_records.specs.Calls.{KeepsCounts, MakesCurrent}
 use Rattle.gs_versions.specs.Pins.{Pins, at_commit}
 use Rattle.gs_ledger.specs.Entries.{Dead}
 use Rattle.gs_ledger.specs.Marks.{dead_at, waste_at}
@@ -36,9 +38,12 @@ use Rattle.gs_commit.proofs.DeadLemmas.{tree_at_same}
 use Rattle.gs_commit.proofs.RootLemmas.{ledger_retirable}
 use Rattle.gs_commit.proofs.LawLemmas.{leaf_upload}
 use Rattle.gs_tree_store.specs.declared.books.Books.{Books}
-use Rattle.gs_tree_store.specs.Books.{graphs_of, dataset_of, IsFound, IsSound, HasLedger}
-use Rattle.gs_tree_store.specs.Opened.{LetsGo, SameOpened}
+use Rattle.gs_tree_store.specs.Books.{graphs_of, dataset_of, totals_of, IsFound, IsSound, HasLedger}
+use Rattle.gs_tree_store.specs.Opened.{SameOpened}
+use Rattle.gs_tree_store.specs.RecordWaste.{DeleteRecords}
 use Rattle.gs_tree_store.specs.Writes.{KeepsBooks, EndsOneVersion, Puts, Removes}
+use Rattle.gs_tree_store.proofs.RecordLemmas.{commit_wastes}
+use Rattle.gs_tree_store.proofs.OpenedLemmas.{put_lets_go}
 
 -- the version of a target, an empty one where it is missing
 abbrev pub version_or : GraphVersions → Target → GraphVersion
@@ -200,22 +205,35 @@ version_set old new t u e graphs latest sound is number =
       ledgers = ends_now old new t e sound number h graphs latest (tree_at p u.root) (subst (λ x. AreSameTrees (x ∷ other_trees p g t) (graph_trees q h)) tree sets.trees);
     }
 
--- the target has the upload's version
-pub put_made : (old new : Books) (n : ℕ) (t : Target) (u : GraphVersion) → EndsTree old new (version_or (graphs_of old) t).root → graphs_of new ≡ with_version (graphs_of old) t u → new.records.latest ≡ new.versions.commit → LetsGo old new n
+-- the target has the upload's version, and the open record of number n is that of it
+pub put_made : (old new : Books) (n : ℕ) (t : Target) (u : GraphVersion) (commit : ℕ) → EndsTree old new (version_or (graphs_of old) t).root → MakesCurrent old.records new.records n t u commit → commit ≡ new.versions.commit
     → IsSound old → IsVersion old.dict.terms old.pool u → old.versions.commit < last_number → Puts old new n t u
-put_made old new n t u e graphs latest go sound is number =
-    let sets = version_set old new t u e graphs latest sound is number in
-    record { dataset = sets.dataset; kept = sets.kept; sound = sets.sound; ledgers = sets.ledgers; lets_go = go }
+put_made old new n t u commit e puts last sound is number =
+    let sets = version_set old new t u e puts.now (puts.latest ∙ last) sound is number in
+    let next : commit ≡ old.versions.commit + 1 = last ∙ ap (λ (v : Pins). v.commit) e.commit in
+    record {
+      dataset = sets.dataset;
+      kept = sets.kept;
+      sound = sets.sound;
+      ledgers = sets.ledgers;
+      lets_go = put_lets_go old new n t u commit puts;
+      counts = puts.counts;
+      waste = commit_wastes old new n t u (graph_of_root old.dict.terms old.pool u.root) commit next puts sound sets.sound sets.dataset;
+    }
 
 -- the ledger of a Delete: a leaf is no upload
 leaf_ends : (old new : Books) (size : ℕ) → ((us : List Tree) (rs : List (List Tree)) → HasLedger old (leaf ∷ us) rs → EndsOneVersion old new size us rs) → (us : List Tree) (rs : List (List Tree)) → HasLedger old us rs → EndsOneVersion old new size us rs
 leaf_ends old new size ends us rs l = ends us rs ((leaf_upload old.pool old.versions (graph_trees old.pool (graphs_of old)) us rs (dead_at old.pool)).0 l)
 
 -- The version of the target's graph ended.
-module _ (old new : Books) (latest : new.records.latest ≡ new.versions.commit) (same : SameOpened old new) (sound : IsSound old) (number : old.versions.commit < last_number) where
+module _ (old new : Books) (latest : new.records.latest ≡ new.versions.commit) (same : SameOpened old new) (counts : KeepsCounts old.records.records new.records.records) (sound : IsSound old) (number : old.versions.commit < last_number) where
+  -- what it makes of the waste of records
+  abbrev Wastes : Target → Type 0
+  Wastes t = DeleteRecords (totals_of old) t true (waste_in old.records.records) (waste_in new.records.records)
+
   -- the default graph is empty
-  emptied : EndsTree old new (version_or (graphs_of old) Default).root → graphs_of new ≡ with_version (graphs_of old) Default empty_version → Removes old new Default
-  emptied e written =
+  emptied : Wastes Default → EndsTree old new (version_or (graphs_of old) Default).root → graphs_of new ≡ with_version (graphs_of old) Default empty_version → Removes old new Default
+  emptied wastes e written =
       let terms = old.dict.terms in
       let none : graph_of_root terms old.pool None ≡ empty_graph = refl in
       let sets = version_set old new Default empty_version e written latest sound (empty_is terms old.pool) number in
@@ -225,11 +243,13 @@ module _ (old new : Books) (latest : new.records.latest ≡ new.versions.commit)
         sound = sets.sound;
         ledgers = leaf_ends old new (size_at (dataset_of old) Default) sets.ledgers;
         same_opened = same;
+        counts = counts;
+        waste = wastes;
       }
 
   -- a name is gone
-  taken_out : (n : List ℕ) → EndsTree old new (version_or (graphs_of old) (Named n)).root → graphs_of new ≡ without_name (graphs_of old) n → Removes old new (Named n)
-  taken_out n e graphs =
+  taken_out : (n : List ℕ) → Wastes (Named n) → EndsTree old new (version_or (graphs_of old) (Named n)).root → graphs_of new ≡ without_name (graphs_of old) n → Removes old new (Named n)
+  taken_out n wastes e graphs =
       let terms = old.dict.terms in
       let p = old.pool in
       let q = new.pool in
@@ -243,8 +263,10 @@ module _ (old new : Books) (latest : new.records.latest ≡ new.versions.commit)
         sound = sound_now old new t e sound number h graphs latest takes.versions;
         ledgers = leaf_ends old new (size_at (dataset_of old) t) (ends_now old new t e sound number h graphs latest leaf takes.trees);
         same_opened = same;
+        counts = counts;
+        waste = wastes;
       }
 
-  pub removed : (t : Target) → EndsTree old new (version_or (graphs_of old) t).root → graphs_of new ≡ without_version (graphs_of old) t → Removes old new t
+  pub removed : (t : Target) → Wastes t → EndsTree old new (version_or (graphs_of old) t).root → graphs_of new ≡ without_version (graphs_of old) t → Removes old new t
   removed Default = emptied
   removed (Named n) = taken_out n

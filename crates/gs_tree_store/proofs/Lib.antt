@@ -1,6 +1,7 @@
 pub mod VerdictLemmas
 pub mod CommitLemmas
 pub mod WriteLemmas
+pub mod RecordLemmas
 pub mod OpenedLemmas
 pub mod AlikeLemmas
 pub mod SeatLemmas

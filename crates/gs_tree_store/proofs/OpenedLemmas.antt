@@ -1,24 +1,86 @@
 -- The records that seats have open: one that is opened, one that is let go, and those of all seats.
-use Rattle.std.proofs.Common.{◌≡◌, ◌≢◌, ◌⊎◌, ℕ, ◌<◌, Bool, true, false, cond, List, length, get_or, set, Option, Some, None, refl, sym, ap, ◌∙◌, inl, inr, true≢false}
+use Rattle.std.proofs.Common.{◌≡◌, ◌≢◌, ◌⊎◌, ℕ, ◌<◌, Bool, true, false, cond, List, length, get_or, set, sum_by, Option, Some, None, is_some, refl, sym, ap, subst, ◌∙◌, arith, inl, inr, true≢false}
 use Rattle.std.proofs.lemmas.Bool.{cases_eq}
 use Rattle.std.proofs.lemmas.Option.{none-some, same_Some}
 use Rattle.std.proofs.lemmas.List.{get_or_default, get_or-set_same, get_or-set_other}
+use Rattle.std.proofs.lemmas.List.Sums.{sum_by-set}
+use Rattle.gs_model.specs.declared.refusals.Refusal.{Refusal}
 use Rattle.gs_term.specs.declared.names.Target.{Target}
+use Rattle.gs_event.specs.declared.events.Action.{Action}
+use Rattle.gs_event.specs.declared.answers.Answer.{Answer}
+use Rattle.gs_event.specs.declared.answers.Answer.TheVariants.{Refused}
+use Rattle.gs_event.specs.Steps.{Joins, IsUnreached}
 use Rattle.gs_catalogue.specs.declared.versions.GraphVersion.{GraphVersion}
-use Rattle.gs_records.specs.Records.{Record, free, opened, unused, kept, record_at, ended, Turns, Ends}
-use Rattle.gs_records.specs.Calls.{is_nothing, made_record, placed, MakesCurrent}
-use Rattle.gs_records.specs.Waste.{is_opened}
+use Rattle.gs_records.specs.Records.{Record, free, opened, unused, kept, Recorded, record_at, ended, Turns, Ends}
+use Rattle.gs_records.specs.Calls.{KeepsCounts, UsesOne, is_nothing, made_record, placed, Opens, GivesUp, MakesCurrent}
+use Rattle.gs_records.specs.Waste.{is_opened, waste_in, open_count, used_count}
 use Rattle.gs_tree_store.specs.declared.books.Books.{Books}
 use Rattle.gs_tree_store.specs.declared.books.Seat.{Seat}
-use Rattle.gs_tree_store.specs.declared.books.Seat.TheVariants.{Idle}
-use Rattle.gs_tree_store.specs.Opened.{own_record, IsOpened, HasRecord, SameOpened, LetsGo, IsOther, KeepsRecords, own_record_at, HaveRecords}
+use Rattle.gs_tree_store.specs.declared.books.Seat.TheVariants.{Idle, Writing, Patching, Reading}
+use Rattle.gs_tree_store.specs.Books.{totals_of, seat_view_by}
+use Rattle.gs_tree_store.specs.RecordWaste.{WastesRecords, TakesRecords}
+use Rattle.gs_tree_store.specs.Opened.{own_record, own_count, IsOpened, HasRecord, SameOpened, LetsGo, IsOther, KeepsRecords, own_record_at, HaveRecords}
+use Rattle.gs_tree_store.proofs.RecordLemmas.{given_up}
+
+-- what an action makes of the number of records in use, and of their waste
+abbrev pub Takes : Books → Books → Action → Answer → Type 0
+Takes b c action answer = TakesRecords action answer (used_count b.records.records) (used_count c.records.records)
+
+abbrev pub Wastes : Books → Books → Seat → Action → Answer → Type 0
+Wastes b c was action answer = WastesRecords (totals_of b) (seat_view_by b was) action answer (waste_in b.records.records) (waste_in c.records.records)
+
+-- a seat has one record open where it has a record
+counted : (s : Seat) → own_count s ≡ cond {A = ℕ} (is_some (own_record s)) 1 0
+counted Idle = refl
+counted (Writing k r v n) = refl
+counted (Patching t r n) = refl
+counted (Reading root last) = refl
+
+count_is : (s : Seat) (o : Option ℕ) → own_record s ≡ o → own_count s ≡ cond {A = ℕ} (is_some o) 1 0
+count_is s o is = counted s ∙ ap (λ (x : Option ℕ). cond {A = ℕ} (is_some x) 1 0) is
 
 -- the same records are open, and the seat has what it had
-pub open_stays : (b c : Books) (was now : Seat) → own_record now ≡ own_record was → SameOpened b c → KeepsRecords b c was now
-open_stays b c was now own same = record {
+pub open_stays : (b c : Books) (was now : Seat) (action : Action) (answer : Answer) → own_record now ≡ own_record was → SameOpened b c → KeepsCounts b.records.records c.records.records → Takes b c action answer → Wastes b c was action answer → KeepsRecords b c was now action answer
+open_stays b c was now action answer own same counts takes wastes = record {
   own = λ has n e. same.stays n (has n (sym own ∙ e));
   others = λ n o. record { open_now = same.stays n o.open_now; other = λ e. o.other (sym own ∙ e) };
   no_more = λ n o. record { open_now = same.no_more n o.open_now; other = λ e. o.other (own ∙ e) };
+  opens = omega (arith, counts.opens, count_is now (own_record was) own, counted was);
+  takes = takes;
+  waste = wastes;
+}
+
+-- the records are the same, and the seat has what it had
+pub records_stay : (b c : Books) (was now : Seat) (action : Action) (answer : Answer) → c.records ≡ b.records → own_record now ≡ own_record was → Takes b b action answer → Wastes b b was action answer → KeepsRecords b c was now action answer
+records_stay b c was now action answer same own takes wastes =
+    let here = sym same in
+    open_stays b c was now action answer own
+    (record { stays = λ n h. ap (λ (x : Recorded). record_at x.records n) same ∙ h; no_more = λ n h. ap (λ (x : Recorded). record_at x.records n) here ∙ h })
+    (record { used = ap (λ (x : Recorded). used_count x.records) same; opens = ap (λ (x : Recorded). open_count x.records) same })
+    (subst (λ (x : Recorded). TakesRecords action answer (used_count b.records.records) (used_count x.records)) here takes)
+    (subst (λ (x : Recorded). WastesRecords (totals_of b) (seat_view_by b was) action answer (waste_in b.records.records) (waste_in x.records)) here wastes)
+
+-- the same, where the answer is found to be a refusal
+pub refused_stays : (b c : Books) (was now : Seat) (action : Action) (answer : Answer) (why : Refusal) → c.records ≡ b.records → own_record now ≡ own_record was → answer ≡ Refused why → Takes b b action (Refused why) → Wastes b b was action (Refused why) → KeepsRecords b c was now action answer
+refused_stays b c was now action answer why same own is takes wastes =
+    subst (λ a. KeepsRecords b c was now action a) (sym is) (records_stay b c was now action (Refused why) same own takes wastes)
+
+-- a record is opened for the seat, which had none
+pub record_opened : (b c : Books) (was now : Seat) (action : Action) (answer : Answer) (n : ℕ) → own_record was ≡ None → own_record now ≡ Some n → Opens b.records c.records n → Takes b c action answer → Wastes b c was action answer → KeepsRecords b c was now action answer
+record_opened b c was now action answer n none own opens takes wastes = record {
+  own = λ has m e. ap (record_at c.records.records) (sym (same_Some n m (sym own ∙ e))) ∙ opens.turns.changed;
+  others = λ m o.
+      let apart : m ≢ n = λ same. true≢false (sym (ap is_opened o.open_now) ∙ ap (λ k. is_opened (record_at b.records.records k)) same ∙ ap is_opened opens.was) in
+      record { open_now = opens.turns.others m apart ∙ o.open_now; other = λ e. apart (sym (same_Some n m (sym own ∙ e))) };
+  no_more = λ m o.
+      let apart : m ≢ n = λ same. o.other (own ∙ ap Some (sym same)) in
+      record { open_now = sym (opens.turns.others m apart) ∙ o.open_now; other = λ e. none-some m (sym none ∙ e) };
+  opens =
+      let before : own_count was ≡ 0 = count_is was None none in
+      let after : own_count now ≡ 1 = count_is now (Some n) own in
+      omega (arith, opens.opens, before, after);
+  takes = takes;
+  waste = wastes;
 }
 
 -- one record stands for what is not open
@@ -62,8 +124,8 @@ put_lets_go b c n t v commit puts =
     }
 
 -- the seat's record is let go
-pub record_let_go : (b c : Books) (was now : Seat) (n : ℕ) → own_record was ≡ Some n → own_record now ≡ None → LetsGo b c n → KeepsRecords b c was now
-record_let_go b c was now n own none go = record {
+pub record_let_go : (b c : Books) (was now : Seat) (action : Action) (answer : Answer) (n : ℕ) → own_record was ≡ Some n → own_record now ≡ None → LetsGo b c n → UsesOne b.records.records c.records.records → Takes b c action answer → Wastes b c was action answer → KeepsRecords b c was now action answer
+record_let_go b c was now action answer n own none go counts takes wastes = record {
   own = λ h k e. absurd (none-some k (sym none ∙ e));
   others = λ m o. record {
     open_now = go.stays m (λ same. o.other (own ∙ ap Some (sym same))) o.open_now;
@@ -72,7 +134,20 @@ record_let_go b c was now n own none go = record {
   no_more = λ m o.
       let was_open = go.no_more m o.open_now in
       record { open_now = was_open.1; other = λ e. was_open.0 (same_Some m n (sym e ∙ own)) };
+  opens =
+      let before : own_count was ≡ 1 = count_is was (Some n) own in
+      let after : own_count now ≡ 0 = count_is now None none in
+      omega (arith, counts.opens, before, after);
+  takes = takes;
+  waste = wastes;
 }
+
+-- it is given up
+pub record_given_up : (b c : Books) (was now : Seat) (action : Action) (answer : Answer) (n : ℕ) → own_record was ≡ Some n → own_record now ≡ None → GivesUp b.records c.records n
+    → (used_count c.records.records ≡ used_count b.records.records → Takes b c action answer) → (Joins IsUnreached 1 (waste_in b.records.records) (waste_in c.records.records) → Wastes b c was action answer)
+    → KeepsRecords b c was now action answer
+record_given_up b c was now action answer n own none gives takes wastes =
+    record_let_go b c was now action answer n own none (turn_lets_go b c n unused refl gives.turns) gives.counts (takes gives.counts.used) (wastes (given_up b.records c.records n gives))
 
 has_or_not : (o : Option ℕ) (n : ℕ) → (o ≡ Some n) ⊎ (o ≡ Some n → ⊥)
 has_or_not None n = inr (none-some n)
@@ -105,7 +180,7 @@ module _ (b c : Books) (xs : List Seat) (s : ℕ) (was now : Seat) (within : s <
       let found = have.all n o.open_now in
       (found.0, other_after found.0 (λ same. o.other (sym own_at ∙ ap (own_record_at xs) (sym same) ∙ found.1)) ∙ found.1)
 
-  module _ (keeps : KeepsRecords b c was now) where
+  module _ (action : Action) (answer : Answer) (keeps : KeepsRecords b c was now action answer) where
     kept_other : (k n : ℕ) → k ≢ s → own_record_at (set xs s now) k ≡ Some n → IsOther c now n
     kept_other k n apart e = keeps.others n (other_open k n apart (sym (other_after k apart) ∙ e))
 
@@ -136,5 +211,8 @@ module _ (b c : Books) (xs : List Seat) (s : ℕ) (was now : Seat) (within : s <
       | inr other ↦ beside n (keeps.no_more n (record { open_now = h; other = other }))
     ]
 
+    many_after : open_count c.records.records ≡ sum_by own_count (set xs s now)
+    many_after = omega (arith, have.many, keeps.opens, sum_by-set own_count xs s now Idle within, ap own_count (get_or_default xs s Idle was within ∙ sym is))
+
     pub have_after : HaveRecords c (set xs s now)
-    have_after = record { open_now = open_after; apart = apart_after; all = all_after }
+    have_after = record { open_now = open_after; apart = apart_after; all = all_after; many = many_after }

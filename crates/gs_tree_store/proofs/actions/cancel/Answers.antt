@@ -1,9 +1,10 @@
 use Rattle.std.proofs.Common.{refl, sym, ap, subst}
-use Rattle.gs_records.specs.Records.{unused}
+use Rattle.gs_event.specs.declared.events.Action.TheVariants.{Cancel}
+use Rattle.gs_event.specs.declared.answers.Answer.TheVariants.{Cancelled}
 use Rattle.gs_tree_store.specs.declared.books.Books.{Books}
-use Rattle.gs_tree_store.specs.declared.books.Seat.TheVariants.{Idle}
-use Rattle.gs_tree_store.specs.Opened.{own_record, SameOpened, LetsGo}
-use Rattle.gs_tree_store.proofs.OpenedLemmas.{open_stays, turn_lets_go, record_let_go}
+use Rattle.gs_tree_store.specs.declared.books.Seat.TheVariants.{Idle, Writing, Patching, Reading}
+use Rattle.gs_tree_store.specs.Opened.{own_record, KeepsRecords}
+use Rattle.gs_tree_store.proofs.OpenedLemmas.{records_stay, record_given_up}
 use Rattle.gs_tree_store.proofs.AlikeLemmas.{gives_up_same}
 use Rattle.gs_tree_store.proofs.ActionLemmas.{upload_retirable, upload_cancelled, patch_cancelled, read_cancelled}
 use Rattle.gs_tree_store.proofs.actions.cancel.Goals as goal
@@ -38,13 +39,19 @@ returns-clause-records c =
     let seat = c.args.seat.now in
     elim c.match-seat.branch [
       | in-Writing w ↦
+          let o = w.in-Writing.opened in
           let new : Books = record b { pool = w.drop_tree.new.pool; records = w.give_up.new.self } in
-          record_let_go b d seat Idle w.in-Writing.opened (ap own_record w.in-Writing.is) refl
-          (subst (λ y. LetsGo b y w.in-Writing.opened) (sym w.books-is) (turn_lets_go b new w.in-Writing.opened unused refl w.give_up.ensures.turns))
+          let was = Writing w.in-Writing.field-0 w.in-Writing.field-1 w.in-Writing.upload o in
+          subst (λ x. KeepsRecords b d x Idle Cancel Cancelled) (sym w.in-Writing.is)
+          (subst (λ y. KeepsRecords b y was Idle Cancel Cancelled) (sym w.books-is) (record_given_up b new was Idle Cancel Cancelled o refl refl w.give_up.ensures (λ e. e) (λ j. j)))
       | in-Patching w ↦
+          let o = w.in-Patching.opened in
           let new : Books = record b { records = w.give_up-in-Patching.new.self } in
-          record_let_go b d seat Idle w.in-Patching.opened (ap own_record w.in-Patching.is) refl
-          (subst (λ y. LetsGo b y w.in-Patching.opened) (sym w.books-is) (turn_lets_go b new w.in-Patching.opened unused refl w.give_up-in-Patching.ensures.turns))
+          let was = Patching w.in-Patching.field-0 w.in-Patching.field-1 o in
+          subst (λ x. KeepsRecords b d x Idle Cancel Cancelled) (sym w.in-Patching.is)
+          (subst (λ y. KeepsRecords b y was Idle Cancel Cancelled) (sym w.books-is) (record_given_up b new was Idle Cancel Cancelled o refl refl w.give_up-in-Patching.ensures (λ e. e) (λ j. j)))
       | in-Reading w ↦
-          open_stays b d seat Idle (sym (ap own_record w.in-Reading.is)) (subst (λ y. SameOpened b y) (sym w.books-is) (record { stays = λ n h. h; no_more = λ n h. h }))
+          let was = Reading w.in-Reading.field-0 w.in-Reading.field-1 in
+          subst (λ x. KeepsRecords b d x Idle Cancel Cancelled) (sym w.in-Reading.is)
+          (subst (λ y. KeepsRecords b y was Idle Cancel Cancelled) (sym w.books-is) (records_stay b (record b { versions = w.unpin.new.self }) was Idle Cancel Cancelled refl refl refl refl))
     ]

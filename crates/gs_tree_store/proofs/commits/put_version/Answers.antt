@@ -1,4 +1,4 @@
-use Rattle.std.proofs.Common.{◌∷◌, sym, ap, subst, ◌∙◌, arith}
+use Rattle.std.proofs.Common.{◌∷◌, sym, ap, subst, arith}
 use Rattle.gs_tree.specs.Tree.{tree_at}
 use Rattle.gs_catalogue.specs.declared.versions.GraphVersion.{GraphVersion}
 use Rattle.gs_versions.specs.Pins.{Pins}
@@ -6,7 +6,6 @@ use Rattle.gs_ledger.specs.Marks.{dead_at}
 use Rattle.gs_reclaim.specs.Reclaims.{CanRetireRoot}
 use Rattle.gs_tree_store.specs.declared.books.Books.{Books}
 use Rattle.gs_tree_store.specs.Books.{graphs_of}
-use Rattle.gs_tree_store.proofs.OpenedLemmas.{put_lets_go}
 use Rattle.gs_tree_store.proofs.CommitLemmas.{version_found, target_retirable, tree_ended, put_made}
 use Rattle.gs_tree_store.proofs.commits.put_version.Goals as goal
 
@@ -28,4 +27,4 @@ returns c =
     let put = c.put.ensures in
     let new : Books = record b { pool = c.end_tree.new.pool; versions = c.end_tree.new.versions; records = c.put.new.self } in
     let ends = tree_ended b t c.or_empty-old.result new.pool new.versions new.records (version_found b t c.args.found c.or_empty-old.result c.or_empty-old.ensures c.requires.found) ended.commit ended.nodes ended.aside ended.ledgers in
-    put_made b new c.args.opened t c.args.upload ends put.now (put.latest ∙ c.commit-commit.ensures) (put_lets_go b new c.args.opened t c.args.upload c.commit-commit.result put) c.requires.sound c.requires.upload.version c.requires.number
+    put_made b new c.args.opened t c.args.upload c.commit-commit.result ends put c.commit-commit.ensures c.requires.sound c.requires.upload.version c.requires.number

@@ -1,13 +1,17 @@
-use Rattle.std.proofs.Common.{◌+◌, None, refl, sym, ap, subst, arith}
+use Rattle.std.proofs.Common.{◌≡◌, ◌+◌, false, None, refl, sym, ap, subst, arith}
+use Rattle.gs_model.specs.declared.refusals.Refusal.TheVariants.{LastNumber as NoNumber, NoMemory}
 use Rattle.gs_event.specs.declared.events.Action.TheVariants.{CommitPatch}
-use Rattle.gs_event.specs.declared.answers.Answer.TheVariants.{Status}
+use Rattle.gs_event.specs.declared.answers.Answer.TheVariants.{Refused, Status}
 use Rattle.gs_event.specs.declared.verdicts.Verdict.TheVariants.{Full, LastNumber, Granted}
-use Rattle.gs_records.specs.Records.{unused}
+use Rattle.gs_records.specs.Waste.{waste_in}
 use Rattle.gs_tree_store.specs.declared.books.Books.{Books}
-use Rattle.gs_tree_store.specs.declared.books.Seat.TheVariants.{Patching}
+use Rattle.gs_tree_store.specs.declared.books.Seat.TheVariants.{Idle, Patching}
+use Rattle.gs_tree_store.specs.Books.{totals_of}
+use Rattle.gs_tree_store.specs.RecordWaste.{UpdateRecords}
 use Rattle.gs_tree_store.specs.Opened.{own_record}
 use Rattle.gs_tree_store.specs.Actions.{Acts}
-use Rattle.gs_tree_store.proofs.OpenedLemmas.{open_stays, turn_lets_go, put_lets_go, record_let_go}
+use Rattle.gs_tree_store.proofs.RecordLemmas.{granted_well, patch_wastes}
+use Rattle.gs_tree_store.proofs.OpenedLemmas.{records_stay, put_lets_go, record_let_go, record_given_up}
 use Rattle.gs_tree_store.proofs.AlikeLemmas.{gives_up_same, with_records}
 use Rattle.gs_tree_store.proofs.WriteLemmas.{has_counts, next_later}
 use Rattle.gs_tree_store.proofs.UndoneLemmas.{with_nodes}
@@ -100,30 +104,53 @@ returns-in-Granted-clause-acts c = λ s ready.
 pub returns-then-not-is_there-clause-records : goal.returns-then-not-is_there-clause-records
 returns-then-not-is_there-clause-records c =
     let b = c.args.books.now in
-    let new : Books = with_records b c.give_up.new.self in
-    record_let_go b new (Patching c.args.target c.args.request c.args.opened) c.args.seat.now c.args.opened refl (ap own_record c.requires.idle) (turn_lets_go b new c.args.opened unused refl c.give_up.ensures.turns)
+    let was = Patching c.args.target c.args.request c.args.opened in
+    record_given_up b (with_records b c.give_up.new.self) was c.args.seat.now (CommitPatch c.args.operations.now) (Status 404 None) c.args.opened refl (ap own_record c.requires.idle) c.give_up.ensures (λ e. e) (λ j. j)
 
 pub returns-in_default-clause-records : goal.returns-in_default-clause-records
 returns-in_default-clause-records c =
     let b = c.args.books.now in
     let seat = Patching c.args.target c.args.request c.args.opened in
-    open_stays b (with_nodes b c.patched-draft.new.dict c.patched-draft.new.pool) seat seat refl (record { stays = λ n h. h; no_more = λ n h. h })
+    records_stay b (with_nodes b c.patched-draft.new.dict c.patched-draft.new.pool) seat seat (CommitPatch c.args.operations.now) (Refused NoMemory) refl refl refl refl
 
 pub returns-in-Full-clause-records : goal.returns-in-Full-clause-records
 returns-in-Full-clause-records c =
     let b = c.args.books.now in
     let new : Books = with_records (with_nodes b c.patched-draft.new.dict c.take_back.new.pool) c.give_up-in-Full.new.self in
-    record_let_go b new (Patching c.args.target c.args.request c.args.opened) c.args.seat.now c.args.opened refl (ap own_record c.requires.idle) (turn_lets_go b new c.args.opened unused refl c.give_up-in-Full.ensures.turns)
+    let was = Patching c.args.target c.args.request c.args.opened in
+    record_given_up b new was c.args.seat.now (CommitPatch c.args.operations.now) (Status 507 None) c.args.opened refl (ap own_record c.requires.idle) c.give_up-in-Full.ensures (λ e. e) (λ j. j)
 
 pub returns-in-LastNumber-clause-records : goal.returns-in-LastNumber-clause-records
 returns-in-LastNumber-clause-records c =
     let b = c.args.books.now in
     let seat = Patching c.args.target c.args.request c.args.opened in
-    open_stays b (with_nodes b c.patched-draft.new.dict c.take_back-in-LastNumber.new.pool) seat seat refl (record { stays = λ n h. h; no_more = λ n h. h })
+    records_stay b (with_nodes b c.patched-draft.new.dict c.take_back-in-LastNumber.new.pool) seat seat (CommitPatch c.args.operations.now) (Refused NoNumber) refl refl refl refl
 
 pub returns-in-Granted-clause-records : goal.returns-in-Granted-clause-records
 returns-in-Granted-clause-records c =
     let b = c.args.books.now in
-    let new : Books = with_draft b c.patched-draft.new.dict c.keep_draft.new.pool c.keep_draft.new.versions c.put.new.self in
-    record_let_go b new (Patching c.args.target c.args.request c.args.opened) c.args.seat.now c.args.opened refl (ap own_record c.requires.idle)
-    (put_lets_go b new c.args.opened c.args.target c.in-Ok.draft (c.commit-birth.result + 1) c.put.ensures)
+    let t = c.args.target in
+    let d = c.patched-draft.new.dict in
+    let q = c.patched-draft.new.pool in
+    let r = c.keep_draft.new in
+    let kept = c.keep_draft.ensures in
+    let ops = c.args.operations.now in
+    let v = c.in-Ok.draft in
+    let g = c.in-Granted in
+    let birth = c.commit-birth.result + 1 in
+    let next : birth ≡ b.versions.commit + 1 = omega (arith, c.commit-birth.ensures) in
+    let puts = c.put.ensures in
+    let some = c.requires.ready in
+    let new : Books = with_draft b d r.pool r.versions c.put.new.self in
+    let was = Patching t c.args.request c.args.opened in
+    let answer = Status g.status None in
+    let there = sym c.if-not-is_there.ensures in
+    let made = drafts_here birth b d q t c.version_of-old.result v c.as_slice.result.now ops.items c.version_of-old.ensures c.as_slice.ensures.value c.in-Ok.ensures.ok in
+    let decided = patch_decided b t there birth d q ops.items v c.holdings-held.result c.place-place.result (Granted g.status g.field-1 g.field-2) made c.holdings-held.ensures c.place-place.ensures g.ensures in
+    let acts : Acts b new some.number was Idle (CommitPatch ops) answer =
+    patch_kept b d q r.pool r.versions c.put.new.self some.number t c.args.request c.args.opened ops v birth g.status g.field-1 g.field-2 next c.in-Ok.ensures.grows made
+    kept.ledgers kept.commit kept.nodes kept.aside puts.now puts.latest decided some.ready in
+    let well = granted_well c.holdings-held.result c.place-place.result v.triples false g.status g.field-1 g.field-2 g.ensures in
+    let wastes = patch_wastes b new some.number g.status Idle t c.args.request c.args.opened v birth next puts some.ready.sound well ops acts in
+    record_let_go b new was c.args.seat.now (CommitPatch ops) answer c.args.opened refl (ap own_record c.requires.idle) (put_lets_go b new c.args.opened t v birth puts) puts.counts puts.counts.used
+    (subst (λ x. UpdateRecords (totals_of b) t ops.items x (waste_in b.records.records) (waste_in new.records.records)) (sym well) wastes)

@@ -1,15 +1,22 @@
-use Rattle.std.proofs.Common.{◌+◌, refl, sym, ap, subst, arith}
+use Rattle.std.proofs.Common.{◌≡◌, ◌+◌, true, None, refl, sym, ap, subst, arith}
+use Rattle.gs_model.specs.declared.refusals.Refusal.TheVariants.{LastNumber as NoNumber, NoMemory}
 use Rattle.gs_event.specs.declared.events.UploadKind.TheVariants.{Post}
-use Rattle.gs_records.specs.Records.{unused}
+use Rattle.gs_event.specs.declared.events.Action.TheVariants.{Commit}
+use Rattle.gs_event.specs.declared.answers.Answer.TheVariants.{Status}
+use Rattle.gs_records.specs.Waste.{waste_in}
 use Rattle.gs_tree_store.specs.declared.books.Books.{Books}
 use Rattle.gs_tree_store.specs.declared.books.Seat.TheVariants.{Writing}
+use Rattle.gs_tree_store.specs.Books.{totals_of}
 use Rattle.gs_tree_store.specs.Uploads.{TakesKeys}
+use Rattle.gs_tree_store.specs.RecordWaste.{UploadRecords}
 use Rattle.gs_tree_store.specs.Opened.{own_record}
-use Rattle.gs_tree_store.proofs.OpenedLemmas.{open_stays, turn_lets_go, put_lets_go, record_let_go}
+use Rattle.gs_tree_store.specs.Actions.{Acts}
+use Rattle.gs_tree_store.proofs.RecordLemmas.{granted_well, post_wastes}
+use Rattle.gs_tree_store.proofs.OpenedLemmas.{refused_stays, put_lets_go, record_let_go, record_given_up}
 use Rattle.gs_tree_store.proofs.AlikeLemmas.{gives_up_same, with_records}
 use Rattle.gs_tree_store.proofs.UndoneLemmas.{with_nodes}
 use Rattle.gs_tree_store.proofs.DraftLemmas.{with_draft}
-use Rattle.gs_tree_store.proofs.WriteLemmas.{next_later}
+use Rattle.gs_tree_store.proofs.WriteLemmas.{upload_graph, next_later}
 use Rattle.gs_tree_store.proofs.UploadLemmas.{upload_draft}
 use Rattle.gs_tree_store.proofs.PostLemmas.{post_unread, mid_can, again_fits, post_unmade, draft_undone, draft_last, draft_full, draft_stored}
 use Rattle.gs_tree_store.proofs.posts.commit_post.Goals as goal
@@ -80,27 +87,47 @@ put-requires-clause-later c = next_later c.args.books.now (Writing (Post c.args.
 pub returns-in_default-clause-records : goal.returns-in_default-clause-records
 returns-in_default-clause-records c =
     let b = c.args.books.now in
-    open_stays b (with_nodes b b.dict _) (Writing (Post c.args.target) c.args.request c.args.upload c.args.opened) _ (ap own_record c.still_open.ensures.seat) (record { stays = λ n h. h; no_more = λ n h. h })
+    let still = c.still_open.ensures in
+    refused_stays b (with_nodes b b.dict _) (Writing (Post c.args.target) c.args.request c.args.upload c.args.opened) _ Commit _ NoMemory refl (ap own_record still.seat) still.answer refl refl
 
 pub returns-in_default-united-clause-records : goal.returns-in_default-united-clause-records
 returns-in_default-united-clause-records c =
     let b = c.args.books.now in
-    open_stays b (with_nodes b b.dict _) (Writing (Post c.args.target) c.args.request c.args.upload c.args.opened) _ (ap own_record c.still_open-in_default-united.ensures.seat) (record { stays = λ n h. h; no_more = λ n h. h })
+    let still = c.still_open-in_default-united.ensures in
+    refused_stays b (with_nodes b b.dict _) (Writing (Post c.args.target) c.args.request c.args.upload c.args.opened) _ Commit _ NoMemory refl (ap own_record still.seat) still.answer refl refl
 
 pub returns-in-Full-clause-records : goal.returns-in-Full-clause-records
 returns-in-Full-clause-records c =
     let b = c.args.books.now in
     let new : Books = with_records (with_nodes b b.dict c.take_back.new.pool) c.give_up.new.self in
-    record_let_go b new (Writing (Post c.args.target) c.args.request c.args.upload c.args.opened) c.args.seat.now c.args.opened refl (ap own_record c.requires.idle) (turn_lets_go b new c.args.opened unused refl c.give_up.ensures.turns)
+    let was = Writing (Post c.args.target) c.args.request c.args.upload c.args.opened in
+    record_given_up b new was c.args.seat.now Commit (Status 507 None) c.args.opened refl (ap own_record c.requires.idle) c.give_up.ensures (λ e. e) (λ j. j)
 
 pub returns-in-LastNumber-clause-records : goal.returns-in-LastNumber-clause-records
 returns-in-LastNumber-clause-records c =
     let b = c.args.books.now in
-    open_stays b (with_nodes b b.dict _) (Writing (Post c.args.target) c.args.request c.args.upload c.args.opened) _ (ap own_record c.still_open-in-LastNumber.ensures.seat) (record { stays = λ n h. h; no_more = λ n h. h })
+    let still = c.still_open-in-LastNumber.ensures in
+    refused_stays b (with_nodes b b.dict _) (Writing (Post c.args.target) c.args.request c.args.upload c.args.opened) _ Commit _ NoNumber refl (ap own_record still.seat) still.answer refl refl
 
 pub returns-in-Granted-clause-records : goal.returns-in-Granted-clause-records
 returns-in-Granted-clause-records c =
     let b = c.args.books.now in
+    let t = c.args.target in
+    let v = c.in-Ok-united.draft in
+    let birth = c.commit-birth.result + 1 in
+    let next : birth ≡ b.versions.commit + 1 = omega (arith, c.commit-birth.ensures) in
+    let some = c.requires.ready in
     let new : Books = with_draft b b.dict c.keep_draft.new.pool c.keep_draft.new.versions c.put.new.self in
-    record_let_go b new (Writing (Post c.args.target) c.args.request c.args.upload c.args.opened) c.args.seat.now c.args.opened refl (ap own_record c.requires.idle)
-    (put_lets_go b new c.args.opened c.args.target c.in-Ok-united.draft (c.commit-birth.result + 1) c.put.ensures)
+    let status = c.in-Granted.status in
+    let was = Writing (Post t) c.args.request c.args.upload c.args.opened in
+    let well = granted_well c.holdings-held.result c.place-place.result v.triples true status c.in-Granted.field-1 c.in-Granted.field-2 c.in-Granted.ensures in
+    let apart = subst (λ xs. TakesKeys b.pool c.take_keys.new.pool c.args.upload.root xs) (sym c.as_slice-run.ensures.value) c.in-Ok.ensures.ok in
+    let kept = c.keep_draft.ensures in
+    let acts : Acts b new some.number was c.args.seat.now Commit (Status status None) =
+    draft_stored b t c.args.request c.args.upload c.args.opened _ c.as_slice-run.result.now some apart
+    _ birth c.version_of-old.result v c.version_of-old.ensures c.in-Ok-united.ensures.ok _ _ c.holdings-held.ensures c.place-place.ensures
+    c.keep_draft.new.pool c.keep_draft.new.versions c.put.new.self some.number status _ _ c.args.seat.now c.requires.idle c.in-Granted.ensures
+    next kept.ledgers kept.commit kept.nodes kept.aside c.put.ensures.now c.put.ensures.latest some.ready in
+    let wastes = post_wastes b new some.number status c.args.seat.now t c.args.request c.args.opened v birth next c.put.ensures some.ready.sound well c.args.upload acts in
+    record_let_go b new was c.args.seat.now Commit (Status status None) c.args.opened refl (ap own_record c.requires.idle) (put_lets_go b new c.args.opened t v birth c.put.ensures) c.put.ensures.counts c.put.ensures.counts.used
+    (subst (λ x. UploadRecords (totals_of b) (Post t) (upload_graph b c.args.upload) x (waste_in b.records.records) (waste_in new.records.records)) (sym well) wastes)

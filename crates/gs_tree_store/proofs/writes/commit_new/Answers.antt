@@ -1,22 +1,26 @@
 use Rattle.std.proofs.Common.{arith, None, Some, string_bytes, refl, sym, ap, subst, ◌∙◌}
 use Rattle.gs_model.specs.Graphs.{size_of}
+use Rattle.gs_model.specs.declared.refusals.Refusal.TheVariants.{LastNumber as NoNumber, NoMemory}
 use Rattle.gs_term.specs.declared.names.Target.TheVariants.{Named}
 use Rattle.gs_event.specs.declared.events.UploadKind.TheVariants.{New}
 use Rattle.gs_event.specs.declared.events.Action.TheVariants.{Commit}
-use Rattle.gs_event.specs.declared.answers.Answer.TheVariants.{Status}
+use Rattle.gs_event.specs.declared.answers.Answer.TheVariants.{Refused, Status}
 use Rattle.gs_event.specs.declared.verdicts.Verdict.TheVariants.{Full, LastNumber, Granted}
-use Rattle.gs_event.specs.Datasets.{size_at}
-use Rattle.gs_event.specs.Operations.{Creates}
-use Rattle.gs_records.specs.Records.{unused}
+use Rattle.gs_event.specs.Datasets.{is_there, size_at}
+use Rattle.gs_event.specs.Operations.{Creates, is_success}
+use Rattle.gs_event.proofs.VerdictLemmas.{made_well}
+use Rattle.gs_records.specs.Waste.{waste_in}
 use Rattle.gs_tree_store.specs.declared.books.Books.{Books}
 use Rattle.gs_tree_store.specs.declared.books.Seat.TheVariants.{Writing}
-use Rattle.gs_tree_store.specs.Books.{books_setting, dataset_of}
+use Rattle.gs_tree_store.specs.Books.{books_setting, dataset_of, totals_of}
+use Rattle.gs_tree_store.specs.RecordWaste.{UploadRecords}
 use Rattle.gs_tree_store.specs.Writes.{Puts}
 use Rattle.gs_tree_store.specs.Verdicts.{name_for, DecidesUpload}
 use Rattle.gs_tree_store.specs.Opened.{own_record}
 use Rattle.gs_tree_store.specs.Actions.{Acts}
 use Rattle.gs_tree_store.proofs.VerdictLemmas.{is_stored, is_not_stored, would_be_stored, name_reported, no_name_reported, new_is_empty}
-use Rattle.gs_tree_store.proofs.OpenedLemmas.{open_stays, turn_lets_go, record_let_go}
+use Rattle.gs_tree_store.proofs.RecordLemmas.{new_wastes}
+use Rattle.gs_tree_store.proofs.OpenedLemmas.{records_stay, record_let_go, record_given_up}
 use Rattle.gs_tree_store.proofs.AlikeLemmas.{gives_up_same}
 use Rattle.gs_tree_store.proofs.WriteLemmas.{upload_graph, has_upload, upload_retirable, versions_same, same_use, commit_refused, commit_failed, commit_stored, taken_over}
 use Rattle.gs_tree_store.proofs.writes.commit_new.Goals as goal
@@ -72,17 +76,35 @@ returns-in-Granted-clause-acts c = λ s ready.
     (λ x y j. taken_over b.versions.commit (size_of g) (size_at m (Named own)) x y (omega (arith, new_is_empty (string_bytes b.base) m r)) j) ready)
 
 pub returns-in_default-clause-records : goal.returns-in_default-clause-records
-returns-in_default-clause-records c = open_stays c.args.books.now c.args.books.now (Writing New c.args.request c.args.upload c.args.opened) (Writing New c.args.request c.args.upload c.args.opened) refl (record { stays = λ n h. h; no_more = λ n h. h })
+returns-in_default-clause-records c =
+    let b = c.args.books.now in
+    let was = Writing New c.args.request c.args.upload c.args.opened in
+    records_stay b b was was Commit (Refused NoMemory) refl refl refl refl
 
 pub returns-in-Full-clause-records : goal.returns-in-Full-clause-records
 returns-in-Full-clause-records c =
     let b = c.args.books.now in
     let new : Books = record b { pool = c.drop_tree.new.pool; records = c.give_up.new.self } in
-    record_let_go b new (Writing New c.args.request c.args.upload c.args.opened) c.args.seat.now c.args.opened refl (ap own_record c.requires.idle) (turn_lets_go b new c.args.opened unused refl c.give_up.ensures.turns)
+    let was = Writing New c.args.request c.args.upload c.args.opened in
+    record_given_up b new was c.args.seat.now Commit (Status 507 None) c.args.opened refl (ap own_record c.requires.idle) c.give_up.ensures (λ e. e) (λ j. j)
 
 pub returns-in-LastNumber-clause-records : goal.returns-in-LastNumber-clause-records
-returns-in-LastNumber-clause-records c = open_stays c.args.books.now c.args.books.now (Writing New c.args.request c.args.upload c.args.opened) (Writing New c.args.request c.args.upload c.args.opened) refl (record { stays = λ n h. h; no_more = λ n h. h })
+returns-in-LastNumber-clause-records c =
+    let b = c.args.books.now in
+    let was = Writing New c.args.request c.args.upload c.args.opened in
+    records_stay b b was was Commit (Refused NoNumber) refl refl refl refl
 
 pub returns-in-Granted-clause-records : goal.returns-in-Granted-clause-records
 returns-in-Granted-clause-records c =
-    record_let_go c.args.books.now c.put_version.new.books (Writing New c.args.request c.args.upload c.args.opened) c.args.seat.now c.args.opened refl (ap own_record c.requires.idle) c.put_version.ensures.lets_go
+    let b = c.args.books.now in
+    let r = c.args.request in
+    let new = c.put_version.new.books in
+    let own = name_for b r in
+    let g = upload_graph b c.args.upload in
+    let status = c.in-Granted.status in
+    let decided = subst (λ n. DecidesUpload b (Named n) c.args.upload (Granted status c.in-Granted.field-1 c.in-Granted.field-2)) c.in-Ok.ensures.0 c.in-Granted.ensures in
+    let puts = subst (λ n. Puts b new c.args.opened (Named n) c.args.upload) c.in-Ok.ensures.0 c.put_version.ensures in
+    let well = ap is_success decided.1 ∙ made_well (is_there (dataset_of b) (Named own)) in
+    let wastes = new_wastes (totals_of b) r g (waste_in b.records.records) (waste_in new.records.records) puts.waste in
+    record_let_go b new (Writing New r c.args.upload c.args.opened) c.args.seat.now Commit (Status status (Some c.in-Ok.location)) c.args.opened refl (ap own_record c.requires.idle) puts.lets_go puts.counts puts.counts.used
+    (subst (λ x. UploadRecords (totals_of b) New g x (waste_in b.records.records) (waste_in new.records.records)) (sym well) wastes)

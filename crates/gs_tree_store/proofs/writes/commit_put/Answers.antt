@@ -1,16 +1,20 @@
 use Rattle.std.proofs.Common.{None, refl, sym, ap, subst, ◌∙◌}
+use Rattle.gs_model.specs.declared.refusals.Refusal.TheVariants.{LastNumber as NoNumber}
 use Rattle.gs_event.specs.declared.events.UploadKind.TheVariants.{Put}
 use Rattle.gs_event.specs.declared.events.Action.TheVariants.{Commit}
-use Rattle.gs_event.specs.declared.answers.Answer.TheVariants.{Status}
-use Rattle.gs_event.specs.Operations.{Puts}
-use Rattle.gs_records.specs.Records.{unused}
+use Rattle.gs_event.specs.declared.answers.Answer.TheVariants.{Refused, Status}
+use Rattle.gs_event.specs.Datasets.{is_there}
+use Rattle.gs_event.specs.Operations.{Puts, is_success}
+use Rattle.gs_event.proofs.VerdictLemmas.{made_well}
+use Rattle.gs_records.specs.Waste.{waste_in}
 use Rattle.gs_tree_store.specs.declared.books.Books.{Books}
 use Rattle.gs_tree_store.specs.declared.books.Seat.TheVariants.{Writing}
-use Rattle.gs_tree_store.specs.Books.{books_setting, dataset_of}
+use Rattle.gs_tree_store.specs.Books.{books_setting, dataset_of, totals_of}
+use Rattle.gs_tree_store.specs.RecordWaste.{UploadRecords}
 use Rattle.gs_tree_store.specs.Opened.{own_record}
 use Rattle.gs_tree_store.specs.Actions.{Acts}
 use Rattle.gs_tree_store.proofs.VerdictLemmas.{is_stored, is_not_stored}
-use Rattle.gs_tree_store.proofs.OpenedLemmas.{open_stays, turn_lets_go, record_let_go}
+use Rattle.gs_tree_store.proofs.OpenedLemmas.{records_stay, record_let_go, record_given_up}
 use Rattle.gs_tree_store.proofs.AlikeLemmas.{gives_up_same}
 use Rattle.gs_tree_store.proofs.WriteLemmas.{upload_graph, has_upload, upload_retirable, versions_same, same_use, commit_failed, commit_stored}
 use Rattle.gs_tree_store.proofs.writes.commit_put.Goals as goal
@@ -49,11 +53,23 @@ pub returns-in-Full-clause-records : goal.returns-in-Full-clause-records
 returns-in-Full-clause-records c =
     let b = c.args.books.now in
     let new : Books = record b { pool = c.drop_tree.new.pool; records = c.give_up.new.self } in
-    record_let_go b new (Writing (Put c.args.target) c.args.request c.args.upload c.args.opened) c.args.seat.now c.args.opened refl (ap own_record c.requires.idle) (turn_lets_go b new c.args.opened unused refl c.give_up.ensures.turns)
+    let was = Writing (Put c.args.target) c.args.request c.args.upload c.args.opened in
+    record_given_up b new was c.args.seat.now Commit (Status 507 None) c.args.opened refl (ap own_record c.requires.idle) c.give_up.ensures (λ e. e) (λ j. j)
 
 pub returns-in-LastNumber-clause-records : goal.returns-in-LastNumber-clause-records
-returns-in-LastNumber-clause-records c = open_stays c.args.books.now c.args.books.now (Writing (Put c.args.target) c.args.request c.args.upload c.args.opened) (Writing (Put c.args.target) c.args.request c.args.upload c.args.opened) refl (record { stays = λ n h. h; no_more = λ n h. h })
+returns-in-LastNumber-clause-records c =
+    let b = c.args.books.now in
+    let was = Writing (Put c.args.target) c.args.request c.args.upload c.args.opened in
+    records_stay b b was was Commit (Refused NoNumber) refl refl refl refl
 
 pub returns-in-Granted-clause-records : goal.returns-in-Granted-clause-records
 returns-in-Granted-clause-records c =
-    record_let_go c.args.books.now c.put_version.new.books (Writing (Put c.args.target) c.args.request c.args.upload c.args.opened) c.args.seat.now c.args.opened refl (ap own_record c.requires.idle) c.put_version.ensures.lets_go
+    let b = c.args.books.now in
+    let t = c.args.target in
+    let new = c.put_version.new.books in
+    let puts = c.put_version.ensures in
+    let status = c.in-Granted.status in
+    let was = Writing (Put t) c.args.request c.args.upload c.args.opened in
+    let well = ap is_success c.in-Granted.ensures.1 ∙ made_well (is_there (dataset_of b) t) in
+    record_let_go b new was c.args.seat.now Commit (Status status None) c.args.opened refl (ap own_record c.requires.idle) puts.lets_go puts.counts puts.counts.used
+    (subst (λ x. UploadRecords (totals_of b) (Put t) (upload_graph b c.args.upload) x (waste_in b.records.records) (waste_in new.records.records)) (sym well) puts.waste)
