@@ -22,7 +22,7 @@ pub enum Command {
     Begin(u16, u64, u64),
     /// An event for the store.
     Ask(Event),
-    /// The nodes in use, and the triples of all graphs.
+    /// The nodes and records in use, and the triples of all graphs.
     Count,
     /// A text in a language for the upload of a seat: the rest of the line, and a line feed.
     Feed(u16, Language, Vec<u8>),

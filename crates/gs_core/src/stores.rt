@@ -89,7 +89,8 @@ impl Store {
     }
 
     /// A store like a new one, whose nodes and terms have numbers from 0 to these, and at most to
-    /// 4,294,967,294. Once all are in use, what wants one more is refused for want of memory.
+    /// 4,294,967,294. Once all are in use, what wants one more is refused for want of memory. Records have
+    /// numbers of their own, from 0 to 4,294,967,294.
     pub fn with_last(
         alloc: Global,
         seats: u16,
@@ -138,9 +139,10 @@ impl Store {
     }
 
     /// Takes one event: the answer fits what the store shows, and the store then shows the next
-    /// view. A refused event changes nothing. An upload's list takes a node for each triple that is
-    /// new to the upload, and every other event none, but the commits of a POST, of a new graph and of
-    /// a patch: these take no more than `gs_event::steps_take_few` says.
+    /// view. A refused event changes nothing. An Open takes a record, an upload's list a node for each
+    /// triple that is new to the upload, and every other event nothing, but the commits of a POST, of a
+    /// new graph and of a patch: these take no more than `gs_event::steps_take_few` says. A Reclaim
+    /// gives back the nodes and records that it frees.
     pub fn step(&mut self, event: &Event) -> Answer
         ensures steps { Steps self.old event.now result self.new }
         ensures uses { UsesNodes self.old event.now result self.new }
@@ -153,8 +155,8 @@ impl Store {
     /// the answers are those of an abstract graph store that takes each write whole at its commit
     /// and each read whole at its pin; and the store then shows what the whole history says. Each
     /// event is one `step`, which says what becomes of the waste, what a Reclaim answers, and how many
-    /// nodes are used. Room
-    /// for all answers is made before the first event, so `NoMemory` changes nothing.
+    /// nodes and records are used. Room for all answers is made before the first event, so `NoMemory`
+    /// changes nothing.
     pub fn run(&mut self, events: &[Event]) -> Result<Vec<Answer>, Refusal>
         ensures legal { IfOk result (λ answers. KeepsLegal self.old events.now answers.items) }
         ensures answered { IfOk result (λ answers. length answers.items ≡ length events.now) }
@@ -168,7 +170,9 @@ impl Store {
         gs_run::run(self.alloc, self, events)
     }
 
-    /// Nodes in use: one for each triple of a current graph or of an open upload, and the waste.
+    /// Nodes and records in use: a node for each triple of a current graph or of an open upload, a record
+    /// for each name, for a default graph that has a triple, and for each open upload or patch, and the
+    /// waste.
     pub fn nodes_in_use(&self) -> u64
         ensures { result ≡ nodes_in self.now }
     {

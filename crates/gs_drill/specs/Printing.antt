@@ -44,7 +44,7 @@ reply_text Taken = fed_text
 reply_text Fault = fault_text
 reply_text Outside = outside_text
 
--- the nodes in use, and the triples of all graphs
+-- the nodes and records in use, and the triples of all graphs
 abbrev pub counts_text : ℕ → ℕ → List ℕ
 counts_text nodes triples = codes "nodes " ++ numeral nodes ++ (codes " triples " ++ numeral triples) ++ line_feed ∷ []
 

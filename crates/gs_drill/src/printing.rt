@@ -133,7 +133,7 @@ pub fn print_reply<W: Write>(out: &mut W, reply: &Reply) -> io::Result<()>
     }
 }
 
-/// Writes how many nodes are in use, and how many triples all graphs have.
+/// Writes how many nodes and records are in use, as `nodes`, and how many triples all graphs have.
 pub fn print_counts<W: Write>(out: &mut W, nodes: u64, triples: u64) -> io::Result<()>
     ensures { Writes (W.contents out.old) (W.contents out.new) (counts_text nodes triples) result }
 {

@@ -142,7 +142,7 @@ kept_in-with_graph m Default g = omega (arith, triples_in-with_graph m Default g
 kept_in-with_graph m (Named n) g =
     let named = names_in-with_graph m (Named n) g in
     elim (is_there m (Named n)) as (λ b. names_in (with_graph m (Named n) g) ≡ cond b (names_in m) (names_in m + 1)
-        → kept_in (with_graph m (Named n) g) + length (lines_at m (Named n)) + cond b 1 0 + 0 ≡ kept_in m + size_of g + 1) [
+    → kept_in (with_graph m (Named n) g) + length (lines_at m (Named n)) + cond b 1 0 + 0 ≡ kept_in m + size_of g + 1) [
       | true ↦ λ is. omega (arith, is, triples_in-with_graph m (Named n) g)
       | false ↦ λ is. omega (arith, is, triples_in-with_graph m (Named n) g)
     ] named

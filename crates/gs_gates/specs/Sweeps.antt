@@ -11,7 +11,7 @@ abbrev pub has_more : Answer → Bool
 has_more (Reclaimed (suc freed) true) = true
 has_more a = false
 
--- the door was asked to free at most 4,096 nodes, so many times, and answered so, the last answer first
+-- the door was asked to free at most 4,096 nodes and records, so many times, and answered so, the last answer first
 abbrev pub ReclaimsByEvents : {D : Type 0} → (D → Event → Answer → D → Type 0) → D → List Answer → D → Type 0
 ReclaimsByEvents gives old [] new = new ≡ old
 ReclaimsByEvents {D} gives old (a ∷ rest) new = (mid : D) × ReclaimsByEvents gives old rest mid × gives mid (Reclaim 4096) a new

@@ -1,5 +1,5 @@
 //! The limits of a server: how long it waits, in the unit that a name ends with, how many connections and notes may wait, and
-//! how many nodes it frees or bytes it drops at once, so that neither a silent client nor much to be freed keeps others for good.
+//! how much it frees or how many bytes it drops at once, so that neither a silent client nor much to be freed keeps others for good.
 ghost use Rattle.std.specs.Prelude.{◌≡◌};
 ghost use Rattle.std.specs.Duration.{as_nanos};
 ghost use Rattle.gs_gates.specs.Limits as spec;
@@ -24,7 +24,7 @@ pub const SHARE_MILLISECONDS: u64 = 10;
 /// The milliseconds of rest after an accept that failed.
 pub const ACCEPT_PAUSE_MILLISECONDS: u64 = 50;
 
-/// The most nodes that are freed in one hold of the lock.
+/// The most nodes and records that are freed in one hold of the lock.
 pub const RECLAIM_NODES: u64 = 4_096;
 
 /// The accepted connections that may wait for a worker. More wait in the system's own queue.

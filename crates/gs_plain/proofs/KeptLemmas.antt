@@ -1,9 +1,9 @@
 -- What a seat's action keeps of the whole store.
 use Rattle.std.proofs.Common.{zero, suc, drop, ◌≡◌, ℕ, ◌+◌, ◌<◌, ◌≤◌, true, false, cond, List, [], ◌∷◌, map, length, get_or, Some, None, MatchOption, refl, sym, ap, ◌∙◌, subst, arith, vec_len, vec_capacity, string_bytes, option_map, replicate, add-zero}
 use Rattle.std.specs.List.{slice_get, slice_set, count_by, sum_by, All, range_with_len}
-use Rattle.gs_event.specs.Datasets.{empty_dataset, triples_in, names_in}
+use Rattle.gs_event.specs.Datasets.{empty_dataset, triples_in, names_in, records_in}
 use Rattle.gs_event.specs.Histories.{view_of}
-use Rattle.gs_event.specs.Waste.{Shown, staged_at, staged_in, nodes_in}
+use Rattle.gs_event.specs.Waste.{Shown, held_at, held_in, nodes_in}
 use Rattle.gs_event.proofs.DatasetLemmas.{triples_in-empty, names_in-empty}
 use Rattle.std.proofs.lemmas.List.Folds.{sum_by-replicate}
 use Rattle.std.proofs.Common.{◌*◌}
@@ -152,19 +152,22 @@ fresh_kept a seats rows len idle triples names staged base = record {
   staged = staged ∙ sym (none_staged seats) ∙ sym (ap (sum_by staged_by) idle);
 }
 
-staged_shown : (rows : List Row) (s : Seat) → staged_at (seat_shown rows s) ≡ staged_by s
-staged_shown rows Idle = refl
-staged_shown rows (Writing k r g) = refl
-staged_shown rows (Patching t r) = refl
-staged_shown rows (Reading row given pin) = refl
+-- what the seat has open: the triples of its upload, and a record of an upload or a patch
+held_shown : (rows : List Row) (s : Seat) → held_at (seat_shown rows s) ≡ staged_by s + cond (will_commit s) 1 0
+held_shown rows Idle = refl
+held_shown rows (Writing k r g) = refl
+held_shown rows (Patching t r) = refl
+held_shown rows (Reading row given pin) = refl
 
-all_staged_shown : (rows : List Row) (seats : List Seat) → staged_in (map (seat_shown rows) seats) ≡ sum_by staged_by seats
-all_staged_shown rows [] = refl
-all_staged_shown rows (s ∷ seats) =
-    omega (arith, sum_by-cons (λ (p : SeatView). staged_at p) (seat_shown rows s) (map (seat_shown rows) seats), sum_by-cons staged_by s seats, staged_shown rows s, all_staged_shown rows seats)
+all_held_shown : (rows : List Row) (seats : List Seat) → held_in (map (seat_shown rows) seats) ≡ sum_by staged_by seats + count_by will_commit seats
+all_held_shown rows [] = refl
+all_held_shown rows (s ∷ seats) =
+    let counted : count_by will_commit (s ∷ seats) ≡ cond (will_commit s) 1 0 + count_by will_commit seats = sum_by-cons (λ x. cond (will_commit x) 1 0) s seats in
+    omega (arith, sum_by-cons (λ (p : SeatView). held_at p) (seat_shown rows s) (map (seat_shown rows) seats), sum_by-cons staged_by s seats, counted, held_shown rows s, all_held_shown rows seats)
 
--- the counts are the nodes in use
-pub nodes_kept : (a : Inside) (s : Shown) → shown_of a ≡ s → IsKept a → a.books.triples + a.books.staged ≡ nodes_in s
-nodes_kept a s view kept =
-    let own : a.books.triples + a.books.staged ≡ nodes_in (shown_of a) = omega (arith, kept.counted.triples, kept.staged, all_staged_shown a.books.rows.items a.seats.items) in
+-- the counts are the nodes and records in use
+pub nodes_kept : (a : Inside) (s : Shown) (records opened : ℕ) → shown_of a ≡ s → IsKept a → records ≡ records_in (dataset_of a.books.rows.items) → opened ≡ count_by will_commit a.seats.items
+    → a.books.triples + a.books.staged + records + opened ≡ nodes_in s
+nodes_kept a s records opened view kept graphs seats =
+    let own : a.books.triples + a.books.staged + records + opened ≡ nodes_in (shown_of a) = omega (arith, kept.counted.triples, kept.staged, graphs, seats, all_held_shown a.books.rows.items a.seats.items) in
     own ∙ ap nodes_in view

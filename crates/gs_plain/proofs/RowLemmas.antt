@@ -1,6 +1,6 @@
--- Rows as a dataset: the newest row of a target says its graph.
-use Rattle.std.proofs.Common.{take, get_or, subst, length-take-le, ◌≡◌, ℕ, ◌+◌, ◌<◌, ◌≤◌, Bool, true, false, cond, ◌||◌, List, [], ◌∷◌, ◌++◌, length, Option, Some, None, is_some, IfSome, refl, sym, ap, ◌∙◌, arith, map as map_each, rules, append_assoc, length-append}
-use Rattle.std.specs.List.{slice_get}
+-- Rows as a dataset: the newest row of a target says its graph. There are no more names than rows.
+use Rattle.std.proofs.Common.{take, get_or, subst, length-take-le, ◌≡◌, ℕ, ◌+◌, ◌-◌, ◌<◌, ◌≤◌, Bool, true, false, cond, ◌||◌, List, [], ◌∷◌, ◌++◌, length, Option, Some, None, is_some, IfSome, refl, sym, ap, ◌∙◌, arith, map as map_each, rules, append_assoc, length-append}
+use Rattle.std.specs.List.{slice_get, fold}
 use Rattle.std.specs.Str.{bytes_eq}
 use Rattle.std.specs.FinMap as map
 use Rattle.std.specs.Cmp.{eq_by_cmp_equiv}
@@ -17,7 +17,8 @@ use Rattle.gs_term.specs.declared.names.Target.{Target}
 use Rattle.gs_term.specs.declared.names.Target.TheVariants.{Default, Named}
 use Rattle.gs_term.specs.Names.{name_cmp}
 use Rattle.gs_term.proofs.NameLemmas.{name_total, name_exact}
-use Rattle.gs_event.specs.Datasets.{Dataset, empty_dataset, with_graph, without_graph, graph_at, lines_if}
+use Rattle.gs_event.specs.Datasets.{Dataset, empty_dataset, with_graph, without_graph, graph_at, is_there, lines_if, names_in}
+use Rattle.gs_event.proofs.DatasetLemmas.{names_in-with_graph, names_in-empty}
 use Rattle.gs_plain.specs.declared.books.Row.{Row}
 use Rattle.gs_plain.specs.Books.{after_row, dataset_of, lines_of_row, is_default}
 use Rattle.gs_plain.specs.Newest.{target_eq, graph_of_row, graph_by, AreOthers, IsLastRow, NewestRow}
@@ -181,3 +182,30 @@ newest_step rows i row t found same within is tests sofar =
 
 pub newest_end : (rows : List Row) (i : ℕ) (t : Target) (found : Option ℕ) → length rows ≤ i → IsNewest rows (take i rows) t found → NewestRow rows t found
 newest_end rows i t found past all = newest_row rows t found (subst (λ front. IsNewest rows front t found) (take_all i rows past) all)
+
+one_at_most : (b : Bool) (n : ℕ) → cond b n (n + 1) ≤ n + 1
+one_at_most true n = omega arith
+one_at_most false n = omega arith
+
+one_less : (b : Bool) (n : ℕ) → cond b (n - 1) n ≤ n + 1
+one_less true n = omega arith
+one_less false n = omega arith
+
+name_less : (m : Dataset) (t : Target) → names_in (without_graph m t) ≤ names_in m + 1
+name_less m Default = omega arith
+name_less m (Named n) = omega (arith, map.len-remove name_total m.named n, one_less (is_some (map.get m.named n)) (names_in m))
+
+name_more : (m : Dataset) (r : Row) → names_in (after_row m r) ≤ names_in m + 1
+name_more m r =
+    elim r.ended as (λ b. names_in (cond b (without_graph m r.target) (with_graph m r.target r.graph)) ≤ names_in m + 1) [
+      | true ↦ name_less m r.target
+      | false ↦ omega (arith, names_in-with_graph m r.target r.graph, one_at_most (is_there m r.target) (names_in m))
+    ]
+
+names_after : (m : Dataset) (rows : List Row) → names_in (fold (λ m (r : Row). after_row m r) m rows) ≤ names_in m + length rows
+names_after m [] = omega arith
+names_after m (r ∷ rows) = omega (arith, names_after (after_row m r) rows, name_more m r)
+
+-- there are no more names than rows
+pub names_few : (rows : List Row) → names_in (dataset_of rows) ≤ length rows
+names_few rows = omega (arith, names_in-empty, names_after empty_dataset rows)

@@ -14,7 +14,7 @@ use Rattle.gs_event.specs.declared.answers.Answer.TheVariants.{Status, Cancelled
 use Rattle.gs_event.specs.Waste.{Lifetime, Shown}
 use Rattle.gs_event.specs.Phases.{Idle, Writing, Patching, Reading}
 use Rattle.gs_event.specs.Views.{Totals, SeatView}
-use Rattle.gs_event.specs.Steps.{Joins, JoinsCopied, WastesUpload, WastesCommit, WastesOperations, WastesPatch, WastesDelete, WastesCancel, Wastes}
+use Rattle.gs_event.specs.Steps.{Joins, JoinsBoth, WastesUpload, WastesCommit, WastesOperations, WastesPatch, WastesDelete, WastesCancel, Wastes}
 
 none_joined : (Has : Lifetime → Type 0) (most : ℕ) (old new : List Lifetime) → old ≡ [] → new ≡ [] → Joins Has most old new
 none_joined Has most old new before after = record {
@@ -24,19 +24,19 @@ none_joined Has most old new before after = record {
   ended = λ k d lt. absurd (omega arith);
 }
 
-none_copied : (last size : ℕ) (old new : List Lifetime) → old ≡ [] → new ≡ [] → JoinsCopied last size old new
-none_copied last size old new before after = record {
+none_both : (last unreached ended : ℕ) (old new : List Lifetime) → old ≡ [] → new ≡ [] → JoinsBoth last unreached ended old new
+none_both last unreached ended old new before after = record {
   between = [];
-  staged = none_joined _ _ old [] before refl;
+  unused = none_joined _ _ old [] before refl;
   replaced = none_joined _ _ [] new refl after;
 }
 
 none_uploaded : (v : Totals) (k : UploadKind) (g : Graph) (done : Bool) (old new : List Lifetime) → old ≡ [] → new ≡ [] → WastesUpload v k g done old new
-none_uploaded v (Put t) g true old new before after = none_joined _ _ old new before after
+none_uploaded v (Put t) g true old new before after = none_both _ _ _ old new before after
 none_uploaded v (Put t) g false old new before after = none_joined _ _ old new before after
-none_uploaded v (Post t) g true old new before after = none_copied _ _ old new before after
+none_uploaded v (Post t) g true old new before after = none_both _ _ _ old new before after
 none_uploaded v (Post t) g false old new before after = none_joined _ _ old new before after
-none_uploaded v New g true old new before after = none_copied _ _ old new before after
+none_uploaded v New g true old new before after = none_both _ _ _ old new before after
 none_uploaded v New g false old new before after = none_joined _ _ old new before after
 
 none_committed : (v : Totals) (p : Option SeatView) (done : Bool) (old new : List Lifetime) → old ≡ [] → new ≡ [] → WastesCommit v p done old new
@@ -48,7 +48,7 @@ none_committed v None done old new before after = after ∙ sym before
 
 none_operated : (v : Totals) (t : Target) (ops : List Op) (done : Bool) (old new : List Lifetime) → old ≡ [] → new ≡ [] → WastesOperations v t ops done old new
 none_operated v t ops true old new before after = none_joined _ _ old new before after
-none_operated v t ops false old new before after = after ∙ sym before
+none_operated v t ops false old new before after = none_joined _ _ old new before after
 
 none_patched : (v : Totals) (p : Option SeatView) (ops : List Op) (done : Bool) (old new : List Lifetime) → old ≡ [] → new ≡ [] → WastesPatch v p ops done old new
 none_patched v (Some (Patching t r)) ops done old new before after = none_operated v t ops done old new before after
@@ -64,7 +64,7 @@ none_deleted v t false old new before after = after ∙ sym before
 none_cancelled : (p : Option SeatView) (old new : List Lifetime) → old ≡ [] → new ≡ [] → WastesCancel p old new
 none_cancelled (Some (Writing k r g)) old new before after = none_joined _ _ old new before after
 none_cancelled (Some Idle) old new before after = after ∙ sym before
-none_cancelled (Some (Patching t r)) old new before after = after ∙ sym before
+none_cancelled (Some (Patching t r)) old new before after = none_joined _ _ old new before after
 none_cancelled (Some (Reading left)) old new before after = after ∙ sym before
 none_cancelled None old new before after = after ∙ sym before
 

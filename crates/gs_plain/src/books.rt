@@ -1,8 +1,8 @@
 //! What a plain store keeps besides its seats: the numbers given out, the counts, and the rows.
-ghost use Rattle.std.specs.Prelude.{◌≡◌, ◌<◌, length, vec_len, vec_capacity};
+ghost use Rattle.std.specs.Prelude.{◌≡◌, ◌<◌, ◌≤◌, ◌+◌, ◌^◌, length, count_by, vec_len, vec_capacity};
 ghost use Rattle.gs_model.specs.Limits.{last_number};
-ghost use Rattle.gs_event.specs.Datasets.{is_there as is_there_of, size_at as size_at_of, with_graph, without_graph, triples_in, names_in};
-ghost use Rattle.gs_plain.specs.Books.{dataset_of, IsCounted};
+ghost use Rattle.gs_event.specs.Datasets.{is_there as is_there_of, size_at as size_at_of, with_graph, without_graph, triples_in, names_in, records_in};
+ghost use Rattle.gs_plain.specs.Books.{dataset_of, will_commit as will_commit_of, IsCounted};
 ghost use Rattle.gs_plain.specs.Versions.{PutsVersion, EndsVersion, EndsRow};
 ghost use Rattle.gs_plain.specs.Newest.{NewestRow};
 
@@ -80,6 +80,34 @@ pub fn size_at(rows: &[Row], target: &Target) -> u64
         None => 0,
         Some(i) => rows[i].graph.len() as u64,
     }
+}
+
+/// How many records there are of the current graphs: one for each name, and one for a default graph
+/// that has a triple.
+pub fn record_count(books: &Books) -> u64
+    requires { IsCounted books.now }
+    ensures value { result ≡ records_in (dataset_of books.now.rows.items) }
+    ensures few { result < 2 ^ 60 }
+{
+    if size_at(books.rows.as_slice(), &Target::Default) == 0 {
+        return books.names;
+    }
+    books.names + 1
+}
+
+/// Whether the seat has an open upload or an open patch.
+fn will_commit(seat: &Seat) -> bool
+    ensures { result ≡ will_commit_of seat.now }
+{
+    matches!(seat, Seat::Writing(_, _, _) | Seat::Patching(_, _))
+}
+
+/// How many seats have one.
+pub fn open_count(seats: &[Seat]) -> usize
+    ensures value { result ≡ count_by will_commit_of seats.now }
+    ensures few { result < 2 ^ 60 }
+{
+    seats.iter().filter(|seat| will_commit(*seat)).count()
 }
 
 /// Makes the graph the newest version of its target, under the next commit number; there are so

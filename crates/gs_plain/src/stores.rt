@@ -8,7 +8,7 @@ ghost use Rattle.gs_event.specs.Histories.{start_with, ShowsStart, HasStartPins}
 ghost use Rattle.gs_event.specs.Waste.{nodes_in};
 
 use crate::actions;
-use crate::books::{Books, Seat};
+use crate::books::{self, Books, Seat};
 use gs_event::{Action, Answer, Event, Limits};
 use gs_model::Refusal;
 use gs_run::EventStore;
@@ -87,11 +87,14 @@ impl PlainStore {
         }
     }
 
-    /// Nodes in use: one for each triple of a current graph or of an open upload.
+    /// Nodes and records in use: a node for each triple of a current graph or of an open upload, and a
+    /// record for each name, for a default graph that has a triple, and for each open upload or patch.
     pub fn nodes_in_use(&self) -> u64
         ensures { result ≡ nodes_in self.now }
     {
-        self.books.triples + self.books.staged
+        let nodes = self.books.triples + self.books.staged;
+        let records = books::record_count(&self.books);
+        nodes + records + books::open_count(self.seats.as_slice()) as u64
     }
 
     /// Triples of the current graphs.

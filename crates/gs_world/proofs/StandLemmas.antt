@@ -183,7 +183,7 @@ module _ (p : Server) (count : ℕ) (w w2 : World) (past : Past) (history : Hist
     go None e same = absent_stands may e same
     go (Some k) e n = moved_stands k n.0 e n.1 (moves k n.0 (st.each c k e) n.2)
 
--- freed nodes
+-- freed nodes and records
 frees_stands : (p : Server) (count : ℕ) (w w2 : World) (past : Past) (history : History) (n : ℕ) → LeadsToWorld p count w past history → FreesNodes n w w2
     → GoesOn p count w2 (Reclaim n) past history
 frees_stands p count w w2 past history n st f = ((event.Reclaim n, f.0) ∷ [], refl, λ d e. refl, go (step_legal (world_start p count) history w.store w2.store (event.Reclaim n) f.0 (record { legal = st.legal; view = st.view; pinned = st.pinned }) f.1)) where

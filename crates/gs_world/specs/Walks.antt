@@ -80,7 +80,7 @@ ChangesOne c old new Holds =
     MatchOption (slice_get old.connections.items c) (new ≡ old)
     (λ k. (k2 : Connection) × (new.connections.items ≡ slice_set old.connections.items c k2) × Holds k old.store k2 new.store)
 
--- the store freed nodes
+-- the store freed nodes and records
 abbrev pub FreesNodes : ℕ → World → World → Type 0
 FreesNodes n old new = (a : Answer) × Steps old.store (event.Reclaim n) a new.store × (new.connections.items ≡ old.connections.items)
 

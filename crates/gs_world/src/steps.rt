@@ -11,6 +11,6 @@ pub enum WorldStep {
     End(u16),
     /// The connection is given up: what it has open is cancelled, and nothing more is done for it.
     Drop(u16),
-    /// The store frees so many nodes that nothing needs any more, or as many as there are.
+    /// The store frees so many nodes and records that nothing needs any more, or as many as there are.
     Reclaim(u64),
 }

@@ -101,7 +101,7 @@ impl World {
         }
     }
 
-    /// The store frees nodes.
+    /// The store frees nodes and records.
     fn reclaim(&mut self, count: u64)
         ensures { FreesNodes count self.old self.new }
     {
