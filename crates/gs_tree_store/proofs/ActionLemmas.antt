@@ -80,7 +80,7 @@ upload_dropped b s k r v o q nodes aside drops ready =
             ledger = ledger_stays (record b { pool = q }) s Idle us rs l.read l.there (subst (λ ts. IsLedger q b.versions ts (leaf ∷ us) rs (dead_at q)) (sym kept.trees) ledger);
             waste = subst (λ n. Joins IsUnreached n (waste_at p) (waste_at q)) (sym size) dropped.waste;
           };
-      uses = ap (λ ns. count_by is_some ns) nodes;
+      takes = ap (λ ns. count_by is_some ns) nodes;
     }
 
 pub upload_cancelled : (b c : Books) (s : ℕ) (seat : Seat) (k : UploadKind) (r : ℕ) (v : GraphVersion) (o : ℕ) (q : Nodes) (x : Recorded) → seat ≡ Writing k r v o → c ≡ record b { pool = q; records = x } → SameNow b.records x → q.nodes ≡ b.pool.nodes → aside_count q ≡ aside_count b.pool → DropsAll b.pool q v.root → IsReady b s seat
@@ -101,7 +101,7 @@ patch_dropped b s t r o ready = record {
   known = tt;
   grows = still_grows b.dict b.dict refl;
   ledgers = λ us rs l. record { ledger = ledger_stays b s Idle us rs l.read l.there l.ledger; waste = refl };
-  uses = refl;
+  takes = refl;
 }
 
 pub patch_cancelled : (b c : Books) (s : ℕ) (seat : Seat) (t : Target) (r o : ℕ) (x : Recorded) → seat ≡ Patching t r o → c ≡ record b { records = x } → SameNow b.records x → IsReady b s seat → Acts b c s seat Idle Cancel Cancelled
@@ -120,7 +120,7 @@ read_dropped b s root last ready = record {
   known = tt;
   grows = still_grows b.dict b.dict refl;
   ledgers = λ us rs l. record { ledger = read_ends b s root last us rs ready.there l; waste = refl };
-  uses = refl;
+  takes = refl;
 }
 
 pub read_cancelled : (b c : Books) (s : ℕ) (seat : Seat) (root : Option ℕ) (last : Option Key) (w : Pins) → seat ≡ Reading root last → c ≡ record b { versions = w } → w ≡ with_pin b.versions s None → IsReady b s seat → Acts b c s seat Idle Cancel Cancelled

@@ -60,5 +60,5 @@ module _ (c : Books) (r : Recorded) (same : SameNow c.records r) where
           };
           waste = on.waste;
         };
-    uses = acts.uses;
+    takes = acts.takes;
   }

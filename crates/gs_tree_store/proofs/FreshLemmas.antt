@@ -1,9 +1,10 @@
 -- What holds of a store without graphs, whose seats are idle.
-use Rattle.std.proofs.Common.{◌≡◌, ◌≤◌, ℕ, zero, suc, ◌+◌, true, false, List, [], ◌∷◌, map, replicate, get_or, Option, Some, None, is_some, refl, sym, ap, ◌∙◌, subst, add-zero, string_bytes, true≢false}
-use Rattle.std.specs.List.{All, count_by, range_with_len}
+use Rattle.std.proofs.Common.{◌≡◌, ◌≤◌, ℕ, zero, suc, ◌+◌, true, false, List, [], ◌∷◌, ◌++◌, map, replicate, get_or, Option, Some, None, is_some, refl, sym, ap, ◌∙◌, subst, arith, add-zero, string_bytes, true≢false}
+use Rattle.std.specs.List.{All, count_by, sum_by, range_with_len}
 use Rattle.std.specs.FinMap as fin
 use Rattle.std.proofs.lemmas.List.{nil_from_length}
 use Rattle.std.proofs.lemmas.List.Elements.{All-nil, All-cons, All-map, All-replicate}
+use Rattle.std.proofs.lemmas.List.Sums.{sum_by-cons}
 use Rattle.std.proofs.lemmas.Option.{none-some}
 use Rattle.gs_model.specs.Bases.{is_base}
 use Rattle.gs_model.specs.Limits.{last_number}
@@ -18,8 +19,9 @@ use Rattle.gs_catalogue.specs.declared.versions.GraphVersion.{GraphVersion}
 use Rattle.gs_catalogue.specs.Catalogues.{GraphVersions, no_versions}
 use Rattle.gs_records.specs.Records.{record_at}
 use Rattle.gs_records.specs.Graphs.{current}
-use Rattle.gs_records.specs.Waste.{is_opened}
+use Rattle.gs_records.specs.Waste.{waste_in, is_opened, open_count}
 use Rattle.gs_versions.specs.Pins.{Pins, unpinned}
+use Rattle.gs_ledger.specs.Entries.{lives}
 use Rattle.gs_ledger.specs.Marks.{dead_at}
 use Rattle.gs_ledger.specs.Ledger.{IsLedger}
 use Rattle.gs_commit.proofs.LawLemmas.{empty_ledger, empty_dead}
@@ -29,7 +31,7 @@ use Rattle.gs_tree_store.specs.declared.books.Books.{Books}
 use Rattle.gs_tree_store.specs.declared.books.Seat.TheVariants.{Idle}
 use Rattle.gs_tree_store.specs.declared.stores.TreeStore.TheInside.{Inside}
 use Rattle.gs_tree_store.specs.Books.{graphs_of, dataset_of, seat_view_by, upload_tree, read_trees, is_reading, IsSeat}
-use Rattle.gs_tree_store.specs.Opened.{own_record, own_record_at, HaveRecords}
+use Rattle.gs_tree_store.specs.Opened.{own_record, own_count, own_record_at, HaveRecords}
 use Rattle.gs_tree_store.specs.Kept.{shown_of, IsKept}
 
 -- no graph has no tree
@@ -48,11 +50,16 @@ idle_at (suc n) (suc k) = idle_at n k
 none_open : (n k m : ℕ) → own_record_at (replicate n Idle) k ≡ Some m → ⊥
 none_open n k m e = none-some m (sym (ap own_record (idle_at n k)) ∙ e)
 
+none_counted : (n : ℕ) → sum_by own_count (replicate n Idle) ≡ 0
+none_counted zero = refl
+none_counted (suc n) = omega (arith, sum_by-cons own_count Idle (replicate n Idle), none_counted n)
+
 none_have : (b : Books) (n : ℕ) → b.records.records ≡ [] → HaveRecords b (replicate n Idle)
 none_have b n none = record {
   open_now = λ k m e. absurd (none_open n k m e);
   apart = λ j k m e f. absurd (none_open n j m e);
   all = λ m h. absurd (true≢false (sym (ap is_opened (sym (ap (λ rs. record_at rs m) none) ∙ h))));
+  many = ap open_count none ∙ sym (none_counted n);
 }
 
 no_flags : (n : ℕ) → map is_some (replicate {A = Option ℕ} n None) ≡ map is_reading (replicate n Idle)
@@ -112,7 +119,11 @@ module _ (a : Inside) (seats commit : ℕ) (fresh : IsFresh a seats commit) wher
         ledger = fresh_ledger;
       }
 
-  -- it shows what the empty history says,
+  -- It has no waste,
+  pub fresh_waste : (shown_of a).waste ≡ []
+  fresh_waste = λ i. lives (empty_dead a.books.pool fresh.nodes i) ++ waste_in (fresh.records i)
+
+  -- shows what the empty history says,
   pub fresh_view : (shown_of a).view ≡ view_of (record { seats = seats; setting = record { base = string_bytes a.books.base; limits = a.books.limits }; request = a.books.request; commit = commit }) []
   fresh_view =
       let dataset : dataset_of a.books ≡ empty_dataset = ap (dataset_at a.books.dict.terms a.books.pool) no_graphs ∙ (none_at_all a.books.dict.terms a.books.pool).dataset in

@@ -164,13 +164,13 @@ module _ (a b : Inside) (s : ℕ) (was now : Seat) (action : Action) (answer : A
       ∙ sym (ap (map is_reading) seats)
 
   -- What holds of every store still holds.
-  pub kept_after : KeepsRecords a.books b.books was now → IsKept b
+  pub kept_after : KeepsRecords a.books b.books was now action answer → IsKept b
   kept_after keeps =
       let xs = a.seats.items in
       record {
         sound = acts.sound;
         known = subst (All (IsSeat b.books.dict.terms b.books.pool)) (set-set xs s Idle now ∙ sym seats) (All-set (IsSeat b.books.dict.terms b.books.pool) (set xs s Idle) s now acts.known others_stay);
         pinned = pinned_after;
-        records = subst (HaveRecords b.books) (sym seats) (have_after a.books b.books xs s was now within is kept.records keeps);
+        records = subst (HaveRecords b.books) (sym seats) (have_after a.books b.books xs s was now within is kept.records action answer keeps);
         ledger = ledger_after;
       }

@@ -21,4 +21,5 @@ pub mod KeptLemmas
 pub mod PlaceLemmas
 pub mod ReclaimLemmas
 pub mod StepLemmas
+pub mod JoinLemmas
 pub mod RunLemmas

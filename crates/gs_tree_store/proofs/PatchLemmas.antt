@@ -23,7 +23,7 @@ use Rattle.gs_event.specs.Operations.{Setting, Patches, after, status_of, stored
 use Rattle.gs_event.specs.Views.{Totals}
 use Rattle.gs_event.specs.Waste.{Lifetime}
 use Rattle.gs_event.specs.Verdicts.{verdict_of, holdings_of, place_in, DecidesChange}
-use Rattle.gs_event.specs.Steps.{Joins, IsUnreached, EndsAt, WastesOperations, most_patched}
+use Rattle.gs_event.specs.Steps.{Joins, IsUnreached, EndsAt, most_patched}
 use Rattle.gs_event.proofs.VerdictLemmas.{store_must}
 use Rattle.gs_dict.specs.Numbering.{Numbered}
 use Rattle.gs_pool.specs.Pool.{Nodes, aside_count}
@@ -46,6 +46,7 @@ use Rattle.gs_tree_store.specs.declared.books.Seat.{Seat}
 use Rattle.gs_tree_store.specs.declared.books.Seat.TheVariants.{Idle, Patching}
 use Rattle.gs_tree_store.specs.Books.{graphs_of, books_setting, dataset_of, totals_of, IsReady}
 use Rattle.gs_tree_store.specs.Drafts.{Drafts}
+use Rattle.gs_tree_store.specs.NodeWaste.{UpdateNodes}
 use Rattle.gs_tree_store.specs.Actions.{Acts}
 use Rattle.gs_tree_store.proofs.AlikeLemmas.{SameNow, with_records, acts_alike}
 use Rattle.gs_tree_store.proofs.CommitLemmas.{version_or}
@@ -137,9 +138,9 @@ without_effect b s t n o ops status is fails same ready =
       grows = still_grows b.dict b.dict refl;
       ledgers = λ us rs l. record {
         ledger = ledger_stays b s Idle us rs l.read l.there l.ledger;
-        waste = subst (λ x. WastesOperations (totals_of b) t ops.items x (waste_at b.pool) (waste_at b.pool)) (sym fails) refl;
+        waste = subst (λ x. UpdateNodes (totals_of b) t ops.items x (waste_at b.pool) (waste_at b.pool)) (sym fails) refl;
       };
-      uses = tt;
+      takes = tt;
     }
 
 -- the target has no graph: nothing changes, and the seat is idle
@@ -228,8 +229,8 @@ patch_kept b d q r w c s t n o ops v birth status triples names born grows made 
           let joins = replaced_joins b.versions.commit most (waste_at b.pool) (waste_at r) e.waste in
           record {
             ledger = ledger_stays new s Idle us rs l.read l.there e.ledger;
-            waste = subst (λ x. WastesOperations (totals_of b) t ops.items x (waste_at b.pool) (waste_at r)) (sym stored.well)
+            waste = subst (λ x. UpdateNodes (totals_of b) t ops.items x (waste_at b.pool) (waste_at r)) (sym stored.well)
                 (subst (λ k. Joins (λ (l : Lifetime). IsUnreached l ⊎ EndsAt (b.versions.commit + 1) l) k (waste_at b.pool) (waste_at r)) (most_is b t there ops.items) joins);
           };
-      uses = tt;
+      takes = tt;
     }

@@ -20,7 +20,7 @@ use Rattle.gs_event.specs.Phases as phase
 use Rattle.gs_event.specs.Views.{FitsSeat}
 use Rattle.gs_event.specs.Verdicts.{verdict_of, holdings_of, place_in, DecidesStore}
 use Rattle.gs_event.proofs.VerdictLemmas.{store_may}
-use Rattle.gs_event.specs.Steps.{WastesUpload, IsUnreached, EndsAt, Joins}
+use Rattle.gs_event.specs.Steps.{IsUnreached, EndsAt, Joins}
 use Rattle.gs_pool.specs.declared.nodes.Key.{Key}
 use Rattle.gs_pool.specs.Pool.{Nodes, in_use, aside_count, room}
 use Rattle.gs_tree.specs.Tree.{Tree, leaf, keys, occurrences, BirthAtMost, tree_at}
@@ -48,6 +48,7 @@ use Rattle.gs_tree_store.specs.Books.{graphs_of, books_setting, dataset_of, tota
 use Rattle.gs_tree_store.specs.Drafts.{CanDraft, IsRun, Drafts}
 use Rattle.gs_tree_store.specs.Uploads.{TakesKeys, MakesAgain}
 use Rattle.gs_tree_store.specs.Verdicts.{HasCounts}
+use Rattle.gs_tree_store.specs.NodeWaste.{UploadNodes}
 use Rattle.gs_tree_store.specs.Actions.{Acts, IsReadyAny}
 use Rattle.gs_tree_store.proofs.AlikeLemmas.{SameNow, with_records, acts_alike}
 use Rattle.gs_tree_store.proofs.CommitLemmas.{version_or}
@@ -159,7 +160,7 @@ module _ (b : Books) (t : Target) (n : ℕ) (u : GraphVersion) (o : ℕ) (p1 : N
                 ledger = ledger_stays (with_nodes b b.dict r) s Idle us rs l.read l.there here;
                 waste = subst (Joins IsUnreached (size_of graph) (waste_at b.pool)) (sym waste) (record { more = []; few = omega arith; same = λ f. omega arith; ended = λ k d lt. absurd (omega arith) });
               };
-          uses = tt;
+          takes = tt;
         })
 
     -- refused: the upload is made again, from the same keys
@@ -196,7 +197,7 @@ module _ (b : Books) (t : Target) (n : ℕ) (u : GraphVersion) (o : ℕ) (p1 : N
             ledger = ledger_stays (with_nodes b b.dict r') s (Writing (Post t) n v o) us rs l.read l.there (moved_ledger b b.dict r' birth tree new grows ready.sound step stands none us₀ rs₀ l₀ us rs l.ledger);
             waste = moved_waste b b.dict r' birth tree new grows ready.sound step stands none us₀ rs₀ l₀;
           };
-          uses = omega (arith, used, ap (λ (xs : List Key). length xs) same);
+          takes = omega (arith, used, ap (λ (xs : List Key). length xs) same);
         }
 
     -- want of memory
@@ -291,8 +292,8 @@ module _ (b : Books) (t : Target) (n : ℕ) (u : GraphVersion) (o : ℕ) (p1 : N
                 let copied = taken_over b.versions.commit (size_of graph) most (waste_at b.pool) (waste_at r) (omega arith) (subst (λ ls. Joins (EndsAt (b.versions.commit + 1)) most ls (waste_at r)) mid_waste e.waste) in
                 record {
                   ledger = ledger_stays new s Idle us rs l.read l.there e.ledger;
-                  waste = subst (λ x. WastesUpload (totals_of b) (Post t) graph x (waste_at b.pool) (waste_at r)) (sym stored.well) copied;
+                  waste = subst (λ x. UploadNodes (totals_of b) (Post t) graph x (waste_at b.pool) (waste_at r)) (sym stored.well) copied;
                 };
-            uses = tt;
+            takes = tt;
           } in
           subst (λ x. Acts b (with_draft b b.dict r w c) s (Writing (Post t) n u o) x Commit (Status status None)) (sym idle) acts

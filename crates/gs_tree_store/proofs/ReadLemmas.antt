@@ -90,7 +90,7 @@ missing b s t none ready =
       known = tt;
       grows = still_grows b.dict b.dict refl;
       ledgers = λ us rs l. record { ledger = ledger_stays b s Idle us rs l.read l.there l.ledger; waste = refl };
-      uses = refl;
+      takes = refl;
     }
 
 pub pin_missing : (b : Books) (s : ℕ) (seat : Seat) (t : Target) → seat ≡ Idle → version_at (graphs_of b) t ≡ None → IsReady b s seat → Acts b b s seat seat (Pin t) (Pinned 404)
@@ -126,7 +126,7 @@ pinned b s t v is ready =
         };
         waste = refl;
       };
-      uses = refl;
+      takes = refl;
     }
 
 pub pin_found : (b : Books) (s : ℕ) (seat : Seat) (t : Target) (v : GraphVersion) (w : Pins) → seat ≡ Idle → version_at (graphs_of b) t ≡ Some v → w ≡ with_pin b.versions s (Some b.versions.commit) → IsReady b s seat
@@ -147,7 +147,7 @@ more_left b s root last count piece some more p ready = record {
   known = record { root_is = ready.known.root_is; keyed = ready.known.keyed; given = p.last_given };
   grows = still_grows b.dict b.dict refl;
   ledgers = λ us rs l. record { ledger = ledger_stays b s (Reading root piece.last) us rs l.read l.there l.ledger; waste = refl };
-  uses = refl;
+  takes = refl;
 }
 
 pub piece_more : (b : Books) (s : ℕ) (seat : Seat) (root : Option ℕ) (last : Option Key) (count : ℕ) (piece : Piece) → seat ≡ Reading root last → 0 < count → piece.is_end ≡ false → IsPiece b.dict.terms b.pool root last count piece → IsReady b s seat
@@ -167,7 +167,7 @@ none_left b s root last count piece some ends p ready = record {
   known = tt;
   grows = still_grows b.dict b.dict refl;
   ledgers = λ us rs l. record { ledger = read_ends b s root last us rs ready.there l; waste = refl };
-  uses = refl;
+  takes = refl;
 }
 
 pub piece_last : (b : Books) (s : ℕ) (seat : Seat) (root : Option ℕ) (last : Option Key) (count : ℕ) (piece : Piece) (w : Pins) → seat ≡ Reading root last → 0 < count → piece.is_end ≡ true → IsPiece b.dict.terms b.pool root last count piece

@@ -1,5 +1,5 @@
 -- What a Reclaim keeps of the whole store.
-use Rattle.std.proofs.Common.{◌≡◌, ℕ, ◌<◌, Bool, List, [], map, length, get_or, Option, None, refl, sym, ap, ◌∙◌, subst, inl, inr, arith, true≢false}
+use Rattle.std.proofs.Common.{◌≡◌, ℕ, ◌+◌, ◌-◌, ◌<◌, Bool, ◌||◌, List, [], map, length, get_or, Option, None, refl, sym, ap, ◌∙◌, subst, inl, inr, arith, true≢false}
 use Rattle.std.specs.List.{All}
 use Rattle.std.proofs.lemmas.List.{append-nil, length-map, get_or-map}
 use Rattle.gs_event.specs.declared.events.Event.TheVariants.{Reclaim}
@@ -12,7 +12,7 @@ use Rattle.gs_ledger.specs.Marks.{dead_at, waste_at}
 use Rattle.gs_ledger.specs.Ledger.{IsLedger}
 use Rattle.gs_reclaim.specs.Reclaims.{KeepsLedgers}
 use Rattle.gs_records.specs.Records.{Record, opened, Recorded, record_at}
-use Rattle.gs_records.specs.Waste.{lifetimes, is_opened}
+use Rattle.gs_records.specs.Waste.{lifetimes, waste_in, is_opened}
 use Rattle.gs_records.specs.Reclaims.{StaysOrGoes, ReclaimsRecords}
 use Rattle.gs_datasets.specs.Standing.{dataset_at, all_versions, graph_trees, IsVersion}
 use Rattle.gs_datasets.specs.Trees.{IsMeant, IsPlainTree}
@@ -28,6 +28,7 @@ use Rattle.gs_tree_store.proofs.AlikeLemmas.{SameNow, alike_dataset, alike_sound
 use Rattle.gs_tree_store.proofs.PlaceLemmas.{same_map, pin_at, some_of}
 use Rattle.gs_tree_store.proofs.ShownLemmas.{outlives_same, KeepsSeat, same_upload, same_read, keeps_seat, seat_stays, shown_stays}
 use Rattle.gs_tree_store.proofs.KeptLemmas.{uploads_of, reads_of}
+use Rattle.gs_tree_store.proofs.JoinLemmas.{frees_both}
 
 -- the store with another pool
 abbrev with_pool : Inside → Nodes → Inside
@@ -101,12 +102,12 @@ module _ (a : Inside) (q : Nodes) (kept : IsKept a) (ledgers : KeepsLedgers a.bo
     sound = record { versions = versions_kept; none_aside = none; commit = kept.sound.commit; latest = kept.sound.latest; base = kept.sound.base };
     known = seats_known;
     pinned = kept.pinned;
-    records = record { open_now = kept.records.open_now; apart = kept.records.apart; all = kept.records.all };
+    records = record { open_now = kept.records.open_now; apart = kept.records.apart; all = kept.records.all; many = kept.records.many };
     ledger = ledger_kept;
   }
 
-  -- Records that ended are gone too.
-  module _ (r : Recorded) (most gone : ℕ) (rest : Bool) (reclaims : ReclaimsRecords a.books.versions.seats most gone rest a.books.records r) where
+  -- Records go too, at most so many as are left of the count once nodes went.
+  module _ (r : Recorded) (n freed gone : ℕ) (left rest : Bool) (reclaims : ReclaimsRecords a.books.versions.seats (n - freed) gone rest a.books.records r) where
     -- the graphs of now are the same
     now_same : SameNow a.books.records r
     now_same = record { graphs = reclaims.now; latest = reclaims.latest }
@@ -123,30 +124,22 @@ module _ (a : Inside) (q : Nodes) (kept : IsKept a) (ledgers : KeepsLedgers a.bo
       sound = alike_sound (with_pool a q).books r now_same (pool_kept none).sound;
       known = seats_known;
       pinned = kept.pinned;
-      records = record { open_now = λ k m e. still_open m (kept.records.open_now k m e); apart = kept.records.apart; all = λ m h. kept.records.all m (was_open m h) };
+      records = record { open_now = λ k m e. still_open m (kept.records.open_now k m e); apart = kept.records.apart; all = λ m h. kept.records.all m (was_open m h); many = reclaims.opens ∙ kept.records.many };
       ledger = subst (λ g. IsLedger q a.books.versions (graph_trees q g) (uploads_of (with_pool a q)) (reads_of (with_pool a q)) (dead_at q)) (sym now_same.graphs) ledger_kept;
     }
 
-    own_reclaim : (n freed : ℕ) (left : Bool) → Frees a.books.versions.seats n freed left (waste_at a.books.pool) (waste_at q) → Steps (shown_of a) (Reclaim n) (Reclaimed freed left) (shown_of (reclaimed a q r))
-    own_reclaim n freed left frees =
+    own_reclaim : Frees a.books.versions.seats n freed left (waste_at a.books.pool) (waste_at q) → Steps (shown_of a) (Reclaim n) (Reclaimed (freed + gone) (left || rest)) (shown_of (reclaimed a q r))
+    own_reclaim frees =
         let dataset = alike_dataset (with_pool a q).books r now_same ∙ dataset_kept in
         record {
           fits = tt;
           view = λ i. record { totals = record { setting = (shown_of a).view.totals.setting; dataset = dataset i; request = a.books.request; commit = a.books.versions.commit }; seats = seats_shown i };
           pinned = refl;
-          waste = frees;
+          waste = frees_both a.books.versions.seats n freed gone left rest (waste_at a.books.pool) (waste_at q) (waste_in a.books.records.records) (waste_in r.records) frees reclaims.waste;
         }
 
     -- and it is a step.
-    pub steps_reclaimed : (old : Shown) (n freed : ℕ) (left : Bool) → shown_of a ≡ old → Frees a.books.versions.seats n freed left (waste_at a.books.pool) (waste_at q) → Steps old (Reclaim n) (Reclaimed freed left) (shown_of (reclaimed a q r))
-    steps_reclaimed old n freed left view frees = subst (λ (x : Shown). Steps x (Reclaim n) (Reclaimed freed left) (shown_of (reclaimed a q r))) view (own_reclaim n freed left frees)
-
-    -- Where no node is gone, what is shown is the same.
-    pub shown_reclaimed : waste_at q ≡ waste_at a.books.pool → shown_of (reclaimed a q r) ≡ shown_of a
-    shown_reclaimed waste =
-        let dataset = alike_dataset (with_pool a q).books r now_same ∙ dataset_kept in
-        λ i. record {
-          view = record { totals = record { setting = (shown_of a).view.totals.setting; dataset = dataset i; request = a.books.request; commit = a.books.versions.commit }; seats = seats_shown i };
-          pinned = a.books.versions.seats;
-          waste = waste i;
-        }
+    pub steps_reclaimed : (old : Shown) (more : Bool) → shown_of a ≡ old → more ≡ (left || rest) → Frees a.books.versions.seats n freed left (waste_at a.books.pool) (waste_at q) → Steps old (Reclaim n) (Reclaimed (freed + gone) more) (shown_of (reclaimed a q r))
+    steps_reclaimed old more view is frees =
+        subst (λ y. Steps old (Reclaim n) (Reclaimed (freed + gone) y) (shown_of (reclaimed a q r))) (sym is)
+        (subst (λ (x : Shown). Steps x (Reclaim n) (Reclaimed (freed + gone) (left || rest)) (shown_of (reclaimed a q r))) view (own_reclaim frees))

@@ -64,7 +64,7 @@ refused_here b s k r v o ts d grows ready =
       known = record { root_is = ready.known.root_is; keyed = outlasts.keyed; counted = ready.known.counted };
       grows = grows;
       ledgers = λ us rs l. record { ledger = ledger_stays (record b { dict = d }) s (Writing k r v o) us rs l.read l.there l.ledger; waste = refl };
-      uses = refl;
+      takes = refl;
     }
 
 pub stage_refused : (b : Books) (seat : Seat) (k : UploadKind) (r : ℕ) (v : GraphVersion) (o : ℕ) (ts : Vec RdfTriple Global) (d : Numbered) (q : Nodes) → seat ≡ Writing k r v o → Grows b.dict d → q ≡ b.pool
@@ -110,7 +110,7 @@ staged b s k r birth v o ts d q m born grows stages ready =
         ledger = ledger_stays now s (Writing k r (record { root = m.root; triples = v.triples + m.added }) o) us rs l.read l.there (moved_ledger b d q birth old new grows ready.sound u.step tree none some.uploads some.reads some.ledger.ledger us rs l.ledger);
         waste = moved_waste b d q birth old new grows ready.sound u.step tree none some.uploads some.reads some.ledger.ledger;
       };
-      uses = omega (arith, used, larger);
+      takes = omega (arith, used, larger);
     }
 
 pub stage_done : (b : Books) (seat : Seat) (k : UploadKind) (r birth : ℕ) (v : GraphVersion) (o : ℕ) (ts : Vec RdfTriple Global) (xs : List RdfTriple) (d : Numbered) (q : Nodes) (m : Merged) → seat ≡ Writing k r v o → xs ≡ ts.items → birth ≡ b.versions.commit + 1

@@ -1,5 +1,5 @@
 -- What a seat's action makes of a store is one step.
-use Rattle.std.proofs.Common.{◌≡◌, ℕ, ◌<◌, ◌≤◌, List, map, length, get_or, set, Some, None, option_map, refl, sym, ap, ◌∙◌, subst}
+use Rattle.std.proofs.Common.{◌≡◌, ℕ, ◌+◌, ◌<◌, ◌≤◌, List, map, length, get_or, set, Some, None, option_map, refl, sym, ap, ◌∙◌, subst}
 use Rattle.std.specs.List.{slice_get, slice_set}
 use Rattle.std.proofs.lemmas.List.{set-get_or}
 use Rattle.std.proofs.lemmas.Option.{slice_get-map, slice_get-get_or, slice_get_past}
@@ -17,12 +17,16 @@ use Rattle.gs_event.proofs.PinLemmas.{refused_pin}
 use Rattle.gs_event.proofs.NodeLemmas.{gives_back}
 use Rattle.gs_pool.specs.Pool.{in_use}
 use Rattle.gs_ledger.specs.Marks.{waste_at}
+use Rattle.gs_records.specs.Waste.{waste_in, used_count}
+use Rattle.gs_records.specs.Uses.{AreUsed}
 use Rattle.gs_tree_store.specs.declared.books.Seat.{Seat}
 use Rattle.gs_tree_store.specs.declared.stores.TreeStore.TheInside.{Inside}
-use Rattle.gs_tree_store.specs.Books.{seat_view_by}
-use Rattle.gs_tree_store.specs.Actions.{SeatWastes, SeatUses, Acts}
+use Rattle.gs_tree_store.specs.Books.{totals_of, seat_view_by}
+use Rattle.gs_tree_store.specs.Opened.{KeepsRecords}
+use Rattle.gs_tree_store.specs.Actions.{SeatUses, Acts}
 use Rattle.gs_tree_store.specs.Uses.{UsesAt, UsesNodes}
 use Rattle.gs_tree_store.specs.Kept.{shown_of, IsKept}
+use Rattle.gs_tree_store.proofs.JoinLemmas.{SeatWastes, both_waste, both_take}
 use Rattle.gs_tree_store.proofs.CountLemmas.{nodes_kept}
 use Rattle.gs_tree_store.proofs.KeptLemmas.{goes_on, others_shown}
 
@@ -34,7 +38,7 @@ seat_wasted old s p (Delete t) (Status status name) new there h = h
 seat_wasted old s p Cancel Cancelled new there h = subst (λ o. WastesCancel o old.waste new) (sym there) h
 seat_wasted old s p action a new there h = h
 
-module _ (a b : Inside) (s : ℕ) (was now : Seat) (action : Action) (answer : Answer) (kept : IsKept a) (within : s < length a.seats.items) (is : was ≡ get_or a.seats.items s was) (seats : b.seats.items ≡ set a.seats.items s now) (acts : Acts a.books b.books s was now action answer) where
+module _ (a b : Inside) (s : ℕ) (was now : Seat) (action : Action) (answer : Answer) (kept : IsKept a) (within : s < length a.seats.items) (is : was ≡ get_or a.seats.items s was) (seats : b.seats.items ≡ set a.seats.items s now) (acts : Acts a.books b.books s was now action answer) (keeps : KeepsRecords a.books b.books was now action answer) where
   seat_there : slice_get (shown_of a).view.seats s ≡ Some (seat_view_by a.books was)
   seat_there = slice_get-map (seat_view_by a.books) a.seats.items s ∙ ap (option_map (seat_view_by a.books)) (slice_get-get_or a.seats.items s was within ∙ ap Some (sym is))
 
@@ -44,28 +48,36 @@ module _ (a b : Inside) (s : ℕ) (was now : Seat) (action : Action) (answer : A
       let made : (shown_of b).view ≡ next_at (shown_of a).view s (seat_view_by a.books was) action answer = λ j. record { totals = acts.totals j; seats = seen j } in
       made ∙ sym (ap (λ o. next_if (shown_of a).view s o action answer) seat_there)
 
+  -- the waste of nodes, and that of records
+  both_wasted : SeatWastes (totals_of a.books) (seat_view_by a.books was) action answer (shown_of a).waste (shown_of b).waste
+  both_wasted = both_waste (totals_of a.books) (seat_view_by a.books was) action answer (waste_at a.books.pool) (waste_at b.books.pool) (waste_in a.books.records.records) (waste_in b.books.records.records)
+      (goes_on a b s was now action answer kept within is seats acts).waste keeps.waste
+
   own_step : Steps (shown_of a) (At s action) answer (shown_of b)
   own_step = record {
     fits = rw seat_there acts.fits;
     view = next_shown;
     pinned = acts.pins;
-    waste = seat_wasted (shown_of a) s (seat_view_by a.books was) action answer (waste_at b.books.pool) seat_there (goes_on a b s was now action answer kept within is seats acts).waste;
+    waste = seat_wasted (shown_of a) s (seat_view_by a.books was) action answer (shown_of b).waste seat_there both_wasted;
   }
 
   -- an action of a seat that there is
   pub steps_after : (old : Shown) → shown_of a ≡ old → Steps old (At s action) answer (shown_of b)
   steps_after old view = subst (λ (x : Shown). Steps x (At s action) answer (shown_of b)) view own_step
 
-  own_uses : IsKept b → UsesNodes (shown_of a) (At s action) answer (shown_of b)
-  own_uses after =
+  own_uses : IsKept b → AreUsed a.books.records.records → AreUsed b.books.records.records → UsesNodes (shown_of a) (At s action) answer (shown_of b)
+  own_uses after used_before used_after =
       let p = seat_view_by a.books was in
-      let before : SeatUses p action answer (nodes_in (shown_of a)) (in_use b.books.pool) = subst (λ n. SeatUses p action answer n (in_use b.books.pool)) (nodes_kept a kept) acts.uses in
-      let both : SeatUses p action answer (nodes_in (shown_of a)) (nodes_in (shown_of b)) = subst (λ n. SeatUses p action answer (nodes_in (shown_of a)) n) (nodes_kept b after) before in
+      let rs = a.books.records.records in
+      let qs = b.books.records.records in
+      let taken : SeatUses p action answer (in_use a.books.pool + used_count rs) (in_use b.books.pool + used_count qs) = both_take p action answer (in_use a.books.pool) (in_use b.books.pool) (used_count rs) (used_count qs) acts.takes keeps.takes in
+      let before : SeatUses p action answer (nodes_in (shown_of a)) (in_use b.books.pool + used_count qs) = subst (λ n. SeatUses p action answer n (in_use b.books.pool + used_count qs)) (nodes_kept a kept used_before) taken in
+      let both : SeatUses p action answer (nodes_in (shown_of a)) (nodes_in (shown_of b)) = subst (λ n. SeatUses p action answer (nodes_in (shown_of a)) n) (nodes_kept b after used_after) before in
       subst (λ o. UsesAt o (At s action) answer (shown_of a) (shown_of b)) (sym seat_there) both
 
-  -- takes so many nodes into use
-  pub uses_after : (old : Shown) → shown_of a ≡ old → IsKept b → UsesNodes old (At s action) answer (shown_of b)
-  uses_after old view after = subst (λ (x : Shown). UsesNodes x (At s action) answer (shown_of b)) view (own_uses after)
+  -- takes so many nodes and records into use
+  pub uses_after : (old : Shown) → shown_of a ≡ old → IsKept b → AreUsed a.books.records.records → AreUsed b.books.records.records → UsesNodes old (At s action) answer (shown_of b)
+  uses_after old view after used_before used_after = subst (λ (x : Shown). UsesNodes x (At s action) answer (shown_of b)) view (own_uses after used_before used_after)
 
 none_wasted : (s : Shown) (n : ℕ) (action : Action) → Wastes s (At n action) (Refused BadSeat) s.waste
 none_wasted s n Commit = refl

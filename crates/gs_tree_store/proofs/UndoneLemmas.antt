@@ -25,7 +25,8 @@ use Rattle.gs_tree_store.specs.declared.books.Books.{Books}
 use Rattle.gs_tree_store.specs.declared.books.Seat.{Seat}
 use Rattle.gs_tree_store.specs.declared.books.Seat.TheVariants.{Idle, Writing, Patching, Reading}
 use Rattle.gs_tree_store.specs.Books.{graphs_of, books_setting, dataset_of, totals_of, seat_view_by, upload_tree, read_trees, is_reading, IsSeat, IsSound, IsReady, HasLedgerAt}
-use Rattle.gs_tree_store.specs.Actions.{SeatWastes, SeatUses, Acts}
+use Rattle.gs_tree_store.specs.NodeWaste.{WastesNodes, TakesNodes}
+use Rattle.gs_tree_store.specs.Actions.{Acts}
 use Rattle.gs_tree_store.proofs.SeatLemmas.{SameGraphs, same_graphs, same_totals, ledger_stays}
 
 -- the books with other terms and another pool
@@ -130,11 +131,11 @@ module _ (b : Books) (d : Numbered) (q : Nodes) (grows : Grows b.dict d) (restor
             let on = acts.ledgers us rs (ledger_same s was us rs l) in
             record {
               ledger = on.ledger;
-              waste = subst (λ w. SeatWastes (totals_of b) (seat_view_by b was) action answer w (waste_at new.pool)) same.waste
-                  (subst (λ t. SeatWastes t (seat_view_by b was) action answer (waste_at q) (waste_at new.pool)) totals_same
-                  (subst (λ p. SeatWastes (totals_of mid) p action answer (waste_at q) (waste_at new.pool)) view on.waste));
+              waste = subst (λ w. WastesNodes (totals_of b) (seat_view_by b was) action answer w (waste_at new.pool)) same.waste
+                  (subst (λ t. WastesNodes t (seat_view_by b was) action answer (waste_at q) (waste_at new.pool)) totals_same
+                  (subst (λ p. WastesNodes (totals_of mid) p action answer (waste_at q) (waste_at new.pool)) view on.waste));
             };
-        uses = subst (λ n. SeatUses (seat_view_by b was) action answer n (in_use new.pool)) restores.in_use (subst (λ p. SeatUses p action answer (in_use q) (in_use new.pool)) view acts.uses);
+        takes = subst (λ n. TakesNodes (seat_view_by b was) action answer n (in_use new.pool)) restores.in_use (subst (λ p. TakesNodes p action answer (in_use q) (in_use new.pool)) view acts.takes);
       }
 
 -- Nothing changes, and the answer says so.
@@ -142,10 +143,10 @@ pub nothing_done : (b : Books) (s : ℕ) (seat : Seat) (action : Action) (a : An
     → next_totals (totals_of b) (seat_view_by b seat) action a ≡ record { setting = books_setting b; dataset = dataset_of b; request = b.request + 0; commit = b.versions.commit + 0 }
     → next_phase (totals_of b) (seat_view_by b seat) action a ≡ seat_view_by b seat
     → pin_after b.versions.commit (get_or b.versions.seats s None) action a ≡ get_or b.versions.seats s None
-    → SeatWastes (totals_of b) (seat_view_by b seat) action a (waste_at b.pool) (waste_at b.pool)
-    → SeatUses (seat_view_by b seat) action a (in_use b.pool) (in_use b.pool)
+    → WastesNodes (totals_of b) (seat_view_by b seat) action a (waste_at b.pool) (waste_at b.pool)
+    → TakesNodes (seat_view_by b seat) action a (in_use b.pool) (in_use b.pool)
     → IsReady b s seat → Acts b b s seat seat action a
-nothing_done b s seat action a fits totals phase pin waste uses ready = record {
+nothing_done b s seat action a fits totals phase pin waste takes ready = record {
   fits = fits;
   totals = same_totals b b refl refl refl refl ∙ sym totals;
   seat = sym phase;
@@ -154,5 +155,5 @@ nothing_done b s seat action a fits totals phase pin waste uses ready = record {
   known = ready.known;
   grows = still_grows b.dict b.dict refl;
   ledgers = λ us rs l. record { ledger = ledger_stays b s seat us rs l.read l.there l.ledger; waste = waste };
-  uses = uses;
+  takes = takes;
 }

@@ -17,7 +17,7 @@ use Rattle.gs_event.specs.Phases.{write_of}
 use Rattle.gs_event.specs.Phases as phase
 use Rattle.gs_event.specs.Views.{Totals, FitsWrite}
 use Rattle.gs_event.specs.Waste.{Lifetime}
-use Rattle.gs_event.specs.Steps.{Joins, JoinsCopied, IsUnreached, EndsAt, most_for_new, WastesUpload, WastesDelete}
+use Rattle.gs_event.specs.Steps.{Joins, JoinsBoth, IsUnreached, EndsAt, most_for_new}
 use Rattle.gs_pool.specs.declared.nodes.Node.{Node}
 use Rattle.gs_pool.specs.Pool.{Nodes, in_use, aside_count}
 use Rattle.gs_tree.specs.Tree.{Tree, keys, tree_at}
@@ -41,7 +41,8 @@ use Rattle.gs_tree_store.specs.declared.books.Seat.TheVariants.{Idle, Writing}
 use Rattle.gs_tree_store.specs.Books.{graphs_of, books_setting, dataset_of, totals_of, upload_tree, IsSound, HasLedger, HasLedgerAt, IsReady}
 use Rattle.gs_tree_store.specs.Writes.{HasUpload, EndsOneVersion, Puts, Removes}
 use Rattle.gs_tree_store.specs.Verdicts.{HasCounts}
-use Rattle.gs_tree_store.specs.Actions.{SeatUses, Acts, IsReadyAny}
+use Rattle.gs_tree_store.specs.NodeWaste.{UploadNodes, DeleteNodes, TakesNodes}
+use Rattle.gs_tree_store.specs.Actions.{Acts, IsReadyAny}
 use Rattle.gs_tree_store.proofs.AlikeLemmas.{SameNow, acts_alike}
 use Rattle.gs_tree_store.proofs.CommitLemmas.{roots_same}
 use Rattle.gs_tree_store.proofs.VerdictLemmas.{size_of_version, IsStored, IsNotStored}
@@ -96,15 +97,15 @@ idle_ledger b s us rs there none l =
 pub same_use : (p q : Nodes) → q.nodes ≡ p.nodes → in_use q ≡ in_use p
 same_use p q nodes = ap (λ (ns : List (Option Node)). count_by is_some ns) nodes
 
-refused_uses : (k : UploadKind) (r : ℕ) (g : Graph) (e : Refusal) (n : ℕ) → SeatUses (phase.Writing k r g) Commit (Refused e) n n
-refused_uses (Put t) r g e n = refl
-refused_uses (Post t) r g e n = refl
-refused_uses New r g e n = refl
+refused_takes : (k : UploadKind) (r : ℕ) (g : Graph) (e : Refusal) (n : ℕ) → TakesNodes (phase.Writing k r g) Commit (Refused e) n n
+refused_takes (Put t) r g e n = refl
+refused_takes (Post t) r g e n = refl
+refused_takes New r g e n = refl
 
-commit_uses : (k : UploadKind) (r : ℕ) (g : Graph) (status : ℕ) (name : Option (List ℕ)) (m n : ℕ) → n ≡ m → SeatUses (phase.Writing k r g) Commit (Status status name) m n
-commit_uses (Put t) r g status name m n same = same
-commit_uses (Post t) r g status name m n same = tt
-commit_uses New r g status name m n same = tt
+commit_takes : (k : UploadKind) (r : ℕ) (g : Graph) (status : ℕ) (name : Option (List ℕ)) (m n : ℕ) → n ≡ m → TakesNodes (phase.Writing k r g) Commit (Status status name) m n
+commit_takes (Put t) r g status name m n same = same
+commit_takes (Post t) r g status name m n same = tt
+commit_takes New r g status name m n same = tt
 
 -- a commit that finds no number left: nothing changes
 pub commit_refused : (b : Books) (s : ℕ) (k : UploadKind) (r : ℕ) (v : GraphVersion) (o : ℕ) → FitsWrite (totals_of b) (asked_by b k r v) (Refused LastNumber) → IsReady b s (Writing k r v o) → Acts b b s (Writing k r v o) (Writing k r v o) Commit (Refused LastNumber)
@@ -117,7 +118,7 @@ commit_refused b s k r v o fits ready = record {
   known = ready.known;
   grows = still_grows b.dict b.dict refl;
   ledgers = λ us rs l. record { ledger = subst (HasLedgerAt b s (Writing k r v o) us) (sym (set_there rs s [] [] l.read)) l; waste = refl };
-  uses = refused_uses k r (upload_graph b v) LastNumber (in_use b.pool);
+  takes = refused_takes k r (upload_graph b v) LastNumber (in_use b.pool);
 }
 
 -- nodes that stay are the same trees
@@ -141,7 +142,7 @@ module _ (b : Books) (q : Nodes) (sound : IsSound b) (same : AreSameIn b.pool q 
   graphs_same : (us : List Tree) (rs : List (List Tree)) → IsLedger q b.versions (graph_trees b.pool (graphs_of b)) us rs (dead_at q) → HasLedger (record b { pool = q }) us rs
   graphs_same us rs l = subst (λ gs. IsLedger q b.versions gs us rs (dead_at q)) (sym (same_trees b.pool q (all_versions (graphs_of b)) same)) l
 
-failed_wastes : (v : Totals) (k : UploadKind) (g : Graph) (old new : List Lifetime) → Joins IsUnreached (size_of g) old new → WastesUpload v k g false old new
+failed_wastes : (v : Totals) (k : UploadKind) (g : Graph) (old new : List Lifetime) → Joins IsUnreached (size_of g) old new → UploadNodes v k g false old new
 failed_wastes v (Put t) g old new j = j
 failed_wastes v (Post t) g old new j = j
 failed_wastes v New g old new j = j
@@ -170,13 +171,13 @@ commit_failed b q x s k r v o now same none drops used not name ready =
             ledger = idle_ledger (record b { pool = q }) s us rs l.there l.read (graphs_same b q ready.sound same us rs d.ledger);
             waste = failed_wastes (totals_of b) k g (waste_at b.pool) (waste_at q) (subst (λ n. Joins IsUnreached n (waste_at b.pool) (waste_at q)) size d.waste);
           };
-      uses = commit_uses k r g 507 None (in_use b.pool) (in_use q) used;
+      takes = commit_takes k r g 507 None (in_use b.pool) (in_use q) used;
     })
 
 -- a commit with effect: the target has the upload's graph
 pub commit_stored : (old new : Books) (s : ℕ) (k : UploadKind) (r : ℕ) (v : GraphVersion) (o : ℕ) (t : Target) (status : ℕ) (name : Option (List ℕ)) → Puts old new o t v → old.versions.commit < last_number
     → IsStored (books_setting old) (dataset_of old) (asked_by old k r v) t (upload_graph old v) status → name ≡ name_by old (asked_by old k r v)
-    → ((a b : List Lifetime) → Joins (EndsAt (old.versions.commit + 1)) (size_at (dataset_of old) t) a b → WastesUpload (totals_of old) k (upload_graph old v) true a b)
+    → ((a b : List Lifetime) → Joins (EndsAt (old.versions.commit + 1)) (size_at (dataset_of old) t) a b → UploadNodes (totals_of old) k (upload_graph old v) true a b)
     → IsReady old s (Writing k r v o) → Acts old new s (Writing k r v o) Idle Commit (Status status name)
 commit_stored old new s k r v o t status name puts number stored reported wastes ready =
     let g = upload_graph old v in
@@ -196,16 +197,16 @@ commit_stored old new s k r v o t status name puts number stored reported wastes
           let e : EndsOneVersion old new (size_at (dataset_of old) t) us rs = puts.ledgers us rs l.ledger in
           record {
             ledger = idle_ledger new s us rs l.there l.read e.ledger;
-            waste = subst (λ b. WastesUpload (totals_of old) k g b (waste_at old.pool) (waste_at new.pool)) (sym stored.well) (wastes (waste_at old.pool) (waste_at new.pool) e.waste);
+            waste = subst (λ b. UploadNodes (totals_of old) k g b (waste_at old.pool) (waste_at new.pool)) (sym stored.well) (wastes (waste_at old.pool) (waste_at new.pool) e.waste);
           };
-      uses = commit_uses k r g status name (in_use old.pool) (in_use new.pool) (same_use old.pool new.pool kept.nodes);
+      takes = commit_takes k r g status name (in_use old.pool) (in_use new.pool) (same_use old.pool new.pool kept.nodes);
     }
 
 -- where an upload leaves no waste, that is what was replaced
-pub taken_over : (last size most : ℕ) (a b : List Lifetime) → most ≤ most_for_new * size → Joins (EndsAt (last + 1)) most a b → JoinsCopied last size a b
+pub taken_over : (last size most : ℕ) (a b : List Lifetime) → most ≤ most_for_new * size → Joins (EndsAt (last + 1)) most a b → JoinsBoth last size (most_for_new * size) a b
 taken_over last size most a b few j = record {
   between = a;
-  staged = record { more = []; few = omega arith; same = λ f. omega arith; ended = λ k d lt. absurd (omega arith) };
+  unused = record { more = []; few = omega arith; same = λ f. omega arith; ended = λ k d lt. absurd (omega arith) };
   replaced = record { more = j.more; few = omega (arith, j.few, few); same = j.same; ended = j.ended };
 }
 
@@ -230,7 +231,7 @@ deleted old new s t status removes there is number ready =
           let e : EndsOneVersion old new (size_at m t) us rs = removes.ledgers us rs ((leaf_upload old.pool old.versions (graph_trees old.pool (graphs_of old)) us rs (dead_at old.pool)).1 l.ledger) in
           record {
             ledger = idle_ledger new s us rs l.there l.read e.ledger;
-            waste = subst (λ b. WastesDelete (totals_of old) t b (waste_at old.pool) (waste_at new.pool)) (sym well) e.waste;
+            waste = subst (λ b. DeleteNodes (totals_of old) t b (waste_at old.pool) (waste_at new.pool)) (sym well) e.waste;
           };
-      uses = same_use old.pool new.pool kept.nodes;
+      takes = same_use old.pool new.pool kept.nodes;
     }

@@ -1,20 +1,23 @@
-use Rattle.std.proofs.Common.{◌/◌}
+use Rattle.std.proofs.Common.{◌≡◌, ◌||◌, sym, ap, ◌∙◌}
 use Rattle.gs_tree_store.proofs.ReclaimLemmas.{kept_reclaimed, steps_reclaimed}
 use Rattle.gs_tree_store.proofs.stores.TreeStore.reclaim.Goals as goal
+use Rattle.gs_tree_store.proofs.stores.TreeStore.reclaim.Goals.{then-nodes, else-nodes}
 
 pub invariant_of-self : goal.invariant_of-self
 invariant_of-self c =
-    let done = c.reclaim-done in
-    let beside = c.reclaim-beside in
-    let few = c.args.count / 16 in
-    kept_reclaimed c.self.inside done.new.pool c.self.invariant done.ensures.ledgers beside.new.self few beside.result.freed beside.result.left beside.ensures done.ensures.none_aside
+    let nodes = c.reclaim-nodes in
+    let gone = c.reclaim-records in
+    kept_reclaimed c.self.inside nodes.new.pool c.self.invariant nodes.ensures.ledgers gone.new.self c.args.count nodes.result.freed gone.result.freed nodes.result.left gone.result.left gone.ensures nodes.ensures.none_aside
 
 pub returns : goal.returns
 returns c = record {
   steps =
-      let done = c.reclaim-done in
-      let beside = c.reclaim-beside in
-      let few = c.args.count / 16 in
-      steps_reclaimed c.self.inside done.new.pool c.self.invariant done.ensures.ledgers beside.new.self few beside.result.freed beside.result.left beside.ensures
-      c.args.self.now c.args.count done.result.freed done.result.left c.self.view_is done.ensures.waste;
+      let nodes = c.reclaim-nodes in
+      let gone = c.reclaim-records in
+      let more : c.if-nodes.result ≡ (nodes.result.left || gone.result.left) = elim c.if-nodes.branch [
+        | then-nodes w ↦ w.result-is ∙ w.if-nodes.true ∙ sym (ap (λ x. x || gone.result.left) w.if-nodes.true)
+        | else-nodes w ↦ w.result-is ∙ sym (ap (λ x. x || gone.result.left) w.if-nodes.false)
+      ] in
+      steps_reclaimed c.self.inside nodes.new.pool c.self.invariant nodes.ensures.ledgers gone.new.self c.args.count nodes.result.freed gone.result.freed nodes.result.left gone.result.left gone.ensures
+      c.args.self.now c.if-nodes.result c.self.view_is more nodes.ensures.waste;
 }

@@ -2,7 +2,7 @@ use Rattle.std.proofs.Common.{refl, ap, ◌∙◌, []}
 use Rattle.gs_event.specs.Histories.{start_with, view_of}
 use Rattle.gs_records.specs.Records.{Recorded}
 use Rattle.gs_tree_store.specs.declared.stores.TreeStore.TheInside.{Inside}
-use Rattle.gs_tree_store.proofs.FreshLemmas.{IsFresh, fresh_kept, fresh_view, fresh_pins}
+use Rattle.gs_tree_store.proofs.FreshLemmas.{IsFresh, fresh_kept, fresh_waste, fresh_view, fresh_pins}
 use Rattle.gs_tree_store.proofs.stores.TreeStore.starting_at.Goals as goal
 
 abbrev made : goal.In_ok-records → Inside
@@ -28,3 +28,6 @@ returns-clause-view c =
 
 pub returns-clause-pinned : goal.returns-clause-pinned
 returns-clause-pinned c = fresh_pins (made c) c.args.seats c.args.commit (is_fresh c) (start_with c.args.seats c.args.base.now c.args.limits c.args.request c.args.commit) refl
+
+pub returns-clause-waste : goal.returns-clause-waste
+returns-clause-waste c = fresh_waste (made c) c.args.seats c.args.commit (is_fresh c)
