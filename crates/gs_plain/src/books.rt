@@ -1,5 +1,5 @@
 //! What a plain store keeps besides its seats: the numbers given out, the counts, and the rows.
-ghost use Rattle.std.specs.Prelude.{◌≡◌, ◌<◌, ◌≤◌, ◌+◌, ◌^◌, length, count_by, vec_len, vec_capacity};
+ghost use Rattle.std.specs.Prelude.{◌≡◌, ◌<◌, ◌^◌, length, count_by, vec_len, vec_capacity};
 ghost use Rattle.gs_model.specs.Limits.{last_number};
 ghost use Rattle.gs_event.specs.Datasets.{is_there as is_there_of, size_at as size_at_of, with_graph, without_graph, triples_in, names_in, records_in};
 ghost use Rattle.gs_plain.specs.Books.{dataset_of, will_commit as will_commit_of, IsCounted};

@@ -1,19 +1,16 @@
 -- The nodes and records in use of a kept store, and the triples of its graphs.
-use Rattle.std.proofs.Common.{◌≡◌, ◌≤◌, ℕ, nat_eq, ◌+◌, false, cond, ◌&&◌, List, [], ◌∷◌, ◌++◌, map, length, length-append, is_none, refl, sym, ap, ◌∙◌, arith, ne_eqb}
+use Rattle.std.proofs.Common.{◌≡◌, ◌≤◌, ℕ, ◌+◌, cond, List, [], ◌∷◌, map, length, length-append, refl, sym, ap, ◌∙◌, arith}
 use Rattle.std.specs.List.{All, sum_by}
 use Rattle.std.specs.FinMap as fin
 use Rattle.std.proofs.lemmas.List.{length-map}
 use Rattle.std.proofs.lemmas.List.Elements.{All-head, All-tail}
 use Rattle.std.proofs.lemmas.List.Sums.{sum_by-cons}
 use Rattle.gs_model.specs.Terms.{Term}
-use Rattle.gs_model.specs.Graphs.{size_of}
-use Rattle.gs_term.specs.declared.names.Target.TheVariants.{Default}
-use Rattle.gs_event.specs.Datasets.{triples_in, some_of, records_in}
+use Rattle.gs_event.specs.Datasets.{triples_in, records_in}
 use Rattle.gs_event.specs.Views.{SeatView}
 use Rattle.gs_event.specs.Waste.{Shown, held_at, held_in, nodes_in}
 use Rattle.gs_pool.specs.Pool.{Nodes, in_use}
-use Rattle.gs_pool.specs.declared.nodes.Key.{Key}
-use Rattle.gs_tree.specs.Tree.{Tree, leaf, fork, root_of, keys, tree_at}
+use Rattle.gs_tree.specs.Tree.{Tree, keys, tree_at}
 use Rattle.gs_keys.specs.Texts.{triple_at}
 use Rattle.gs_keys.proofs.KeyLemmas.{triples_of_keys}
 use Rattle.gs_catalogue.specs.declared.versions.GraphVersion.{GraphVersion}
@@ -22,9 +19,8 @@ use Rattle.gs_ledger.specs.Entries.{keys_in}
 use Rattle.gs_ledger.specs.Marks.{dead_at, waste_at}
 use Rattle.gs_ledger.proofs.Counts.{nodes_counted}
 use Rattle.gs_records.specs.Waste.{waste_in, used_count}
-use Rattle.gs_records.specs.Calls.{is_nothing, records_for}
 use Rattle.gs_records.specs.Uses.{records_of_graphs, AreUsed}
-use Rattle.gs_datasets.specs.Standing.{dataset_at, all_versions, version_tree, version_graph, graph_trees, IsVersion}
+use Rattle.gs_datasets.specs.Standing.{dataset_at, all_versions, version_tree, graph_trees, IsVersion}
 use Rattle.gs_datasets.proofs.Sizes.{triples_in-is, names_in-is}
 use Rattle.gs_tree_store.specs.declared.books.Seat.{Seat}
 use Rattle.gs_tree_store.specs.declared.books.Seat.TheVariants.{Idle, Writing, Patching, Reading}

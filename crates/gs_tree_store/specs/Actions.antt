@@ -1,5 +1,5 @@
 -- What an action makes of the books and of its seat. Of this module public clauses cite `SeatUses` alone, by `UsesNodes`.
-use Rattle.std.specs.Prelude.{◌≡◌, ℕ, ◌+◌, List, Some, None, slice_index_or}
+use Rattle.std.specs.Prelude.{◌≡◌, ℕ, ◌+◌, List, None, slice_index_or}
 use Rattle.std.specs.List.{slice_set}
 use Rattle.gs_model.specs.Graphs.{size_of, with_triples}
 use Rattle.gs_event.specs.declared.events.Action.{Action}
@@ -8,7 +8,7 @@ use Rattle.gs_event.specs.declared.events.UploadKind.TheVariants.{Put}
 use Rattle.gs_event.specs.declared.answers.Answer.{Answer}
 use Rattle.gs_event.specs.declared.answers.Answer.TheVariants.{Opened, Staged, Status}
 use Rattle.gs_event.specs.Phases.{Writing}
-use Rattle.gs_event.specs.Views.{Totals, SeatView, FitsSeat, next_totals, next_phase}
+use Rattle.gs_event.specs.Views.{SeatView, FitsSeat, next_totals, next_phase}
 use Rattle.gs_event.specs.Steps.{pin_after}
 use Rattle.gs_pool.specs.Pool.{in_use}
 use Rattle.gs_tree.specs.Tree.{Tree}
