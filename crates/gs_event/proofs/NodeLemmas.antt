@@ -27,7 +27,7 @@ use Rattle.gs_event.specs.Operations.{Setting, is_within, united, stored, stored
 use Rattle.gs_event.specs.Phases.{Idle, Writing, Patching, Reading, write_of}
 use Rattle.gs_event.specs.Views.{Totals, View, SeatView, FitsSeat, next_totals, next_phase, next_if}
 use Rattle.gs_event.specs.Waste.{Lifetime, Shown, held_at, held_in, nodes_in}
-use Rattle.gs_event.specs.Steps.{Joins, WastesUpload, WastesCommit, WastesOperations, most_patched, WastesPatch, WastesDelete, WastesCancel, Frees, Wastes}
+use Rattle.gs_event.specs.Steps.{Joins, UploadNodes, UploadRecords, UpdateNodes, CommitRecords, UpdateRecords, DeleteNodes, DeleteRecords, most_patched, WastesBoth, WastesIf, Frees}
 use Rattle.gs_event.specs.NodesInUse.{most_for_upload, most_for_update, most_taken_at, most_taken_if, TakesFew, GivesBack}
 use Rattle.gs_event.proofs.DatasetLemmas.{kept_in-with_graph, kept_in-without_graph}
 use Rattle.gs_event.proofs.SizeLemmas.{adds_up, graph_few, listed_few, united_few}
@@ -57,74 +57,85 @@ stored_not w m t g s fails status =
       | false ↦ λ is. refl
     ] status
 
--- an upload with effect: its nodes become the graph's, or may join the waste
-uploaded : (v : Totals) (k : UploadKind) (r : ℕ) (g : Graph) (s : ℕ) (done : Bool) (old new : List Lifetime) → is_success s ≡ done → s ≡ status_of v.setting v.dataset (write_of k r g) → WastesUpload v k g done old new
+-- an upload: with effect its nodes and its record become the graph's, and else they may join the waste
+uploaded : (v : Totals) (k : UploadKind) (r : ℕ) (g : Graph) (s : ℕ) (done : Bool) (old mid new : List Lifetime) → is_success s ≡ done → s ≡ status_of v.setting v.dataset (write_of k r g) → UploadNodes v k g done old mid → UploadRecords v k g done mid new
     → kept_in (after v.setting v.dataset (write_of k r g)) + 0 + length new ≤ kept_in v.dataset + (size_of g + 1) + length old + cond done (most_for_upload k g) 0
-uploaded v (Put t) r g s true old new well status w =
+uploaded v (Put t) r g s true old mid new well status w x =
     let now = ap kept_in (stored_well v.setting v.dataset t g s well status) in
-    omega (arith, now, kept_in-with_graph v.dataset t g, joined _ _ old w.between w.unused, joined _ _ w.between new w.replaced)
-uploaded v (Post t) r g s true old new well status w =
+    omega (arith, now, kept_in-with_graph v.dataset t g, joined _ _ old mid w, joined _ _ mid x.between x.unused, joined _ _ x.between new x.replaced)
+uploaded v (Post t) r g s true old mid new well status w x =
     let both = united (graph_at v.dataset t) g in
     let now = ap kept_in (stored_well v.setting v.dataset t both s well status) in
-    omega (arith, now, kept_in-with_graph v.dataset t both, united_few (graph_at v.dataset t) g, joined _ _ old w.between w.unused, joined _ _ w.between new w.replaced)
-uploaded v New r g s true old new well status w =
+    omega (
+      arith,
+      now,
+      kept_in-with_graph v.dataset t both,
+      united_few (graph_at v.dataset t) g,
+      joined _ _ old w.between w.unused,
+      joined _ _ w.between mid w.replaced,
+      joined _ _ mid x.between x.unused,
+      joined _ _ x.between new x.replaced,
+    )
+uploaded v New r g s true old mid new well status w x =
     let t = Named (new_name v.setting.base v.dataset r) in
     let now = ap kept_in (stored_well v.setting v.dataset t g s well status) in
-    omega (arith, now, kept_in-with_graph v.dataset t g, joined _ _ old w.between w.unused, joined _ _ w.between new w.replaced)
-uploaded v (Put t) r g s false old new fails status w =
-    omega (arith, ap kept_in (stored_not v.setting v.dataset t g s fails status), joined _ _ old new w)
-uploaded v (Post t) r g s false old new fails status w =
-    omega (arith, ap kept_in (stored_not v.setting v.dataset t (united (graph_at v.dataset t) g) s fails status), joined _ _ old new w)
-uploaded v New r g s false old new fails status w =
-    omega (arith, ap kept_in (stored_not v.setting v.dataset (Named (new_name v.setting.base v.dataset r)) g s fails status), joined _ _ old new w)
+    omega (
+      arith,
+      now,
+      kept_in-with_graph v.dataset t g,
+      joined _ _ old w.between w.unused,
+      joined _ _ w.between mid w.replaced,
+      joined _ _ mid x.between x.unused,
+      joined _ _ x.between new x.replaced,
+    )
+uploaded v (Put t) r g s false old mid new fails status w x =
+    omega (arith, ap kept_in (stored_not v.setting v.dataset t g s fails status), joined _ _ old mid w, joined _ _ mid new x)
+uploaded v (Post t) r g s false old mid new fails status w x =
+    omega (arith, ap kept_in (stored_not v.setting v.dataset t (united (graph_at v.dataset t) g) s fails status), joined _ _ old mid w, joined _ _ mid new x)
+uploaded v New r g s false old mid new fails status w x =
+    omega (arith, ap kept_in (stored_not v.setting v.dataset (Named (new_name v.setting.base v.dataset r)) g s fails status), joined _ _ old mid w, joined _ _ mid new x)
 
 -- an update with effect, by the graph that was there
-patched_well : (v : Totals) (t : Target) (ops : List Op) (s : ℕ) (Has : Lifetime → Type 0) (old new : List Lifetime) (o : Option Graph) → graph_at v.dataset t ≡ o → is_success s ≡ true
-    → s ≡ cond (is_some o) (stored_status v.setting v.dataset t (patched o ops)) 404 → Joins Has (most_patched o ops + records_at v.dataset t + unused_for t (patched o ops)) old new
+patched_well : (v : Totals) (t : Target) (ops : List Op) (s : ℕ) (Has : Lifetime → Type 0) (old mid new : List Lifetime) (o : Option Graph) → graph_at v.dataset t ≡ o → is_success s ≡ true
+    → s ≡ cond (is_some o) (stored_status v.setting v.dataset t (patched o ops)) 404 → Joins Has (most_patched o ops) old mid → CommitRecords v t (patched o ops) mid new
     → kept_in (cond (is_some o) (stored v.setting v.dataset t (patched o ops)) v.dataset) + 0 + length new ≤ kept_in v.dataset + 1 + length old + most_for_update o ops
-patched_well v t ops s Has old new None is well status joins = absurd (let no : false ≡ true = sym (ap is_success status) ∙ well in cc)
-patched_well v t ops s Has old new (Some g) is well status joins =
+patched_well v t ops s Has old mid new None is well status w x = absurd (let no : false ≡ true = sym (ap is_success status) ∙ well in cc)
+patched_well v t ops s Has old mid new (Some g) is well status w x =
     let now = ap kept_in (stored_well v.setting v.dataset t (updated g ops) s well status) in
     let size : length (lines_at v.dataset t) ≡ size_of g = ap (λ o. length (lines_if o)) is ∙ length-map (triples_of g) line_of in
-    omega (arith, now, size, kept_in-with_graph v.dataset t (updated g ops), adds_up g ops, joined Has _ old new joins)
+    omega (
+      arith,
+      now,
+      size,
+      kept_in-with_graph v.dataset t (updated g ops),
+      adds_up g ops,
+      joined Has _ old mid w,
+      joined _ _ mid x.between x.unused,
+      joined _ _ x.between new x.replaced,
+    )
 
 -- an update without effect
 patched_not : (v : Totals) (t : Target) (g : Graph) (s : ℕ) (there : Bool) → is_success s ≡ false → s ≡ cond there (stored_status v.setting v.dataset t g) 404 → cond there (stored v.setting v.dataset t g) v.dataset ≡ v.dataset
 patched_not v t g s true fails status = stored_not v.setting v.dataset t g s fails status
 patched_not v t g s false fails status = refl
 
-updated_few : (v : Totals) (t : Target) (ops : List Op) (s : ℕ) (done : Bool) (old new : List Lifetime) → is_success s ≡ done → s ≡ cond (is_there v.dataset t) (stored_status v.setting v.dataset t (patched (graph_at v.dataset t) ops)) 404
-    → WastesOperations v t ops done old new
+updated_few : (v : Totals) (t : Target) (ops : List Op) (s : ℕ) (done : Bool) (old mid new : List Lifetime) → is_success s ≡ done → s ≡ cond (is_there v.dataset t) (stored_status v.setting v.dataset t (patched (graph_at v.dataset t) ops)) 404
+    → UpdateNodes v t ops done old mid → UpdateRecords v t ops done mid new
     → kept_in (cond (is_there v.dataset t) (stored v.setting v.dataset t (patched (graph_at v.dataset t) ops)) v.dataset) + 0 + length new ≤ kept_in v.dataset + 1 + length old + cond done (most_for_update (graph_at v.dataset t) ops) 0
-updated_few v t ops s true old new well status w = patched_well v t ops s _ old new (graph_at v.dataset t) refl well status w
-updated_few v t ops s false old new fails status w =
-    omega (arith, ap kept_in (patched_not v t (patched (graph_at v.dataset t) ops) s (is_there v.dataset t) fails status), joined _ _ old new w)
+updated_few v t ops s true old mid new well status w x = patched_well v t ops s _ old mid new (graph_at v.dataset t) refl well status w x
+updated_few v t ops s false old mid new fails status w x =
+    omega (arith, ap kept_in (patched_not v t (patched (graph_at v.dataset t) ops) s (is_there v.dataset t) fails status), ap length w, joined _ _ mid new x)
 
 -- a DELETE, by whether there was a graph and whether it took effect
-deleted : (v : Totals) (t : Target) (s : ℕ) (there done : Bool) (old new : List Lifetime) → is_there v.dataset t ≡ there → is_success s ≡ done → s ≡ cond there 204 404 → WastesDelete v t done old new
+deleted : (v : Totals) (t : Target) (s : ℕ) (there done : Bool) (old mid new : List Lifetime) → is_there v.dataset t ≡ there → is_success s ≡ done → s ≡ cond there 204 404 → DeleteNodes v t done old mid → DeleteRecords v t done mid new
     → kept_in (cond there (without_graph v.dataset t) v.dataset) + 0 + length new ≤ kept_in v.dataset + 0 + length old + 0
-deleted v t s true true old new is well status w = omega (arith, kept_in-without_graph v.dataset t is, joined _ _ old new w)
-deleted v t s true false old new is fails status w = absurd (let no : false ≡ true = sym fails ∙ ap is_success status in cc)
-deleted v t s false true old new is well status w = absurd (let no : false ≡ true = sym (ap is_success status) ∙ well in cc)
-deleted v t s false false old new is fails status w = omega (arith, ap length w)
+deleted v t s true true old mid new is well status w x = omega (arith, kept_in-without_graph v.dataset t is, joined _ _ old mid w, joined _ _ mid new x)
+deleted v t s true false old mid new is fails status w x = absurd (let no : false ≡ true = sym fails ∙ ap is_success status in cc)
+deleted v t s false true old mid new is well status w x = absurd (let no : false ≡ true = sym (ap is_success status) ∙ well in cc)
+deleted v t s false false old mid new is fails status w x = omega (arith, ap length w, ap length x)
 
--- what an action makes of the waste, by the phase of its seat
-abbrev Wasted : Totals → Option SeatView → Action → Answer → List Lifetime → List Lifetime → Type 0
-Wasted v o Commit (Status s name) old new = WastesCommit v o (is_success s) old new
-Wasted v o (CommitPatch ops) (Status s name) old new = WastesPatch v o ops.items (is_success s) old new
-Wasted v o (Delete t) (Status s name) old new = WastesDelete v t (is_success s) old new
-Wasted v o Cancel Cancelled old new = WastesCancel o old new
-Wasted v o action a old new = new ≡ old
-
-wasted : (old : Shown) (s : ℕ) (action : Action) (a : Answer) (new : List Lifetime) → Wastes old (At s action) a new → Wasted old.view.totals (slice_get old.view.seats s) action a old.waste new
-wasted old s Commit (Status status name) new w = w
-wasted old s (CommitPatch ops) (Status status name) new w = w
-wasted old s (Delete t) (Status status name) new w = w
-wasted old s Cancel Cancelled new w = w
-wasted old s action a new w = w
-
-unchanged : (n : ℕ) (old new : List Lifetime) → new ≡ old → n + length new ≤ n + length old + 0
-unchanged n old new w = omega (arith, ap length w)
+unchanged : (n : ℕ) (old mid new : List Lifetime) → mid ≡ old → new ≡ mid → n + length new ≤ n + length old + 0
+unchanged n old mid new w x = omega (arith, ap length w, ap length x)
 
 -- a phase in which nothing is staged
 pin_stages : (b : Bool) (left : List (List ℕ)) → held_at (cond b (Reading left) Idle) ≡ 0
@@ -136,46 +147,38 @@ piece_stages true left = refl
 piece_stages false left = refl
 
 -- the current graphs, the seat's upload and the waste have no more nodes together
-taken_at : (v : Totals) (p : SeatView) (action : Action) (a : Answer) (old new : List Lifetime) → FitsSeat v p action a → Wasted v (Some p) action a old new
+taken_at : (v : Totals) (p : SeatView) (action : Action) (a : Answer) (old new : List Lifetime) → FitsSeat v p action a → WastesBoth v p action a old new
     → kept_in (next_totals v p action a).dataset + held_at (next_phase v p action a) + length new ≤ kept_in v.dataset + held_at p + length old + most_taken_at v.dataset p action a
-taken_at v Idle (Open k) (Opened r) old new fits w = omega (arith, empty_has_none, ap length w)
-taken_at v Idle (OpenPatch t) (Opened r) old new fits w = omega (arith, ap length w)
-taken_at v Idle (Delete t) (Status s name) old new fits w = deleted v t s (is_there v.dataset t) (is_success s) old new refl refl fits.0 w
-taken_at v Idle (Head t) (Status s name) old new fits w = unchanged (kept_in v.dataset + 0) old new w
-taken_at v Idle (Pin t) (Pinned s) old new fits w = omega (arith, pin_stages (nat_eq s 200) (lines_at v.dataset t), ap length w)
+taken_at v Idle (Open k) (Opened r) old new fits w = omega (arith, empty_has_none, ap length w.nodes, ap length w.records)
+taken_at v Idle (OpenPatch t) (Opened r) old new fits w = omega (arith, ap length w.nodes, ap length w.records)
+taken_at v Idle (Delete t) (Status s name) old new fits w = deleted v t s (is_there v.dataset t) (is_success s) old w.between new refl refl fits.0 w.nodes w.records
+taken_at v Idle (Head t) (Status s name) old new fits w = unchanged (kept_in v.dataset + 0) old w.between new w.nodes w.records
+taken_at v Idle (Pin t) (Pinned s) old new fits w = omega (arith, pin_stages (nat_eq s 200) (lines_at v.dataset t), ap length w.nodes, ap length w.records)
 taken_at v Idle Commit (Status s name) old new fits w = absurd fits
 taken_at v Idle (CommitPatch ops) (Status s name) old new fits w = absurd fits
 taken_at v Idle Cancel Cancelled old new fits w = absurd fits
 taken_at v (Writing k r g) (Stage ts) Staged old new fits w =
-    omega (arith, graph_few (triples_of g) ts.items, listed_few ts.items, ap length w)
-taken_at v (Writing k r g) Commit (Status s name) old new fits w = uploaded v k r g s (is_success s) old new refl fits.0 w
-taken_at v (Writing k r g) Cancel Cancelled old new fits w = omega (arith, joined _ _ old new w)
+    omega (arith, graph_few (triples_of g) ts.items, listed_few ts.items, ap length w.nodes, ap length w.records)
+taken_at v (Writing k r g) Commit (Status s name) old new fits w = uploaded v k r g s (is_success s) old w.between new refl fits.0 w.nodes w.records
+taken_at v (Writing k r g) Cancel Cancelled old new fits w = omega (arith, joined _ _ old w.between w.nodes, joined _ _ w.between new w.records)
 taken_at v (Writing k r g) (Delete t) (Status s name) old new fits w = absurd fits
 taken_at v (Writing k r g) (CommitPatch ops) (Status s name) old new fits w = absurd fits
-taken_at v (Patching t r) (CommitPatch ops) (Status s name) old new fits w = updated_few v t ops.items s (is_success s) old new refl fits.0 w
+taken_at v (Patching t r) (CommitPatch ops) (Status s name) old new fits w = updated_few v t ops.items s (is_success s) old w.between new refl fits.0 w.nodes w.records
 taken_at v (Patching t r) (Delete u) (Status s name) old new fits w = absurd fits
 taken_at v (Patching t r) Commit (Status s name) old new fits w = absurd fits
-taken_at v (Patching t r) Cancel Cancelled old new fits w = omega (arith, joined _ _ old new w)
-taken_at v (Reading left) (Piece n) (Lines b end) old new fits w = omega (arith, piece_stages end (drop n left), ap length w)
+taken_at v (Patching t r) Cancel Cancelled old new fits w = omega (arith, ap length w.nodes, joined _ _ w.between new w.records)
+taken_at v (Reading left) (Piece n) (Lines b end) old new fits w = omega (arith, piece_stages end (drop n left), ap length w.nodes, ap length w.records)
 taken_at v (Reading left) (Delete t) (Status s name) old new fits w = absurd fits
 taken_at v (Reading left) Commit (Status s name) old new fits w = absurd fits
 taken_at v (Reading left) (CommitPatch ops) (Status s name) old new fits w = absurd fits
-taken_at v (Reading left) Cancel Cancelled old new fits w = unchanged (kept_in v.dataset + 0) old new w
-taken_at v p action a old new fits w = unchanged (kept_in v.dataset + held_at p) old new w
-
-refused_waste : (v : Totals) (action : Action) (r : Refusal) (old new : List Lifetime) → Wasted v None action (Refused r) old new → new ≡ old
-refused_waste v Commit r old new w = w
-refused_waste v (CommitPatch ops) r old new w = w
-refused_waste v (Delete t) r old new w = w
-refused_waste v Cancel r old new w = w
-refused_waste v action r old new w = w
+taken_at v (Reading left) Cancel Cancelled old new fits w = unchanged (kept_in v.dataset + 0) old w.between new w.nodes w.records
+taken_at v p action a old new fits w = unchanged (kept_in v.dataset + held_at p) old w.between new w.nodes w.records
 
 -- whether or not there is such a seat
 taken_if : (old : Shown) (s : ℕ) (action : Action) (a : Answer) (new : Shown) (o : Option SeatView) → slice_get old.view.seats s ≡ o → MatchOption o (a ≡ Refused BadSeat) (λ p. FitsSeat old.view.totals p action a)
-    → Wasted old.view.totals o action a old.waste new.waste → new.view ≡ next_if old.view s o action a → nodes_in new ≤ nodes_in old + most_taken_if old.view.totals.dataset o action a
+    → WastesIf old.view.totals o action a old.waste new.waste → new.view ≡ next_if old.view s o action a → nodes_in new ≤ nodes_in old + most_taken_if old.view.totals.dataset o action a
 taken_if old s action a new None is fits w view =
-    let same = refused_waste old.view.totals action BadSeat old.waste new.waste (subst (λ r. Wasted old.view.totals None action r old.waste new.waste) fits w) in
-    omega (arith, ap length same, ap (λ (v : View). kept_in v.totals.dataset) view, ap (λ (v : View). held_in v.seats) view)
+    omega (arith, ap length w, ap (λ (v : View). kept_in v.totals.dataset) view, ap (λ (v : View). held_in v.seats) view)
 taken_if old s action a new (Some p) is fits w view =
     let next = next_phase old.view.totals p action a in
     let seats : sum_by (λ (q : SeatView). held_at q) (slice_set old.view.seats s next) + held_at (get_or old.view.seats s p) ≡ held_in old.view.seats + held_at next =
@@ -195,4 +198,4 @@ gives_back old n freed left new step =
 pub takes_few : (old : Shown) (e : Event) (a : Answer) (new : Shown) → TakesFew old e a new
 takes_few old (Reclaim n) (Reclaimed freed left) new step = omega (arith, gives_back old n freed left new step)
 takes_few old (Reclaim n) a new step = absurd step.waste
-takes_few old (At s action) a new step = taken_if old s action a new (slice_get old.view.seats s) refl step.fits (wasted old s action a new.waste step.waste) step.view
+takes_few old (At s action) a new step = taken_if old s action a new (slice_get old.view.seats s) refl step.fits step.waste step.view

@@ -63,51 +63,80 @@ pub record JoinsBoth (last unreached ended : ℕ) (old new : List Lifetime) : Ty
   pub unused : Joins IsUnreached unreached old between
   pub replaced : Joins (EndsAt (last + 1)) ended between new
 
--- What a commit of an upload of g makes of the waste, by its kind and whether it took effect. The nodes and the record of a
--- PUT become the graph's, so those that the graph had join; of an upload without effect they may join themselves.
-abbrev pub WastesUpload : Totals → UploadKind → Graph → Bool → List Lifetime → List Lifetime → Type 0
-WastesUpload v (Put t) g true old new =
-    JoinsBoth v.commit (unused_for t g) (size_at v.dataset t + records_at v.dataset t) old new
-WastesUpload v (Post t) g true old new =
-    JoinsBoth v.commit (size_of g + unused_for t (united (graph_at v.dataset t) g))
-    (most_for_new * size_of g + records_at v.dataset t) old new
-WastesUpload v New g true old new = JoinsBoth v.commit (size_of g) (most_for_new * size_of g) old new
-WastesUpload v k g false old new = Joins IsUnreached (size_of g + 1) old new
-
--- what a Commit makes of the waste, by the phase of its seat
-abbrev pub WastesCommit : Totals → Option SeatView → Bool → List Lifetime → List Lifetime → Type 0
-WastesCommit v (Some (Writing k r g)) done old new = WastesUpload v k g done old new
-WastesCommit v p done old new = new ≡ old
+-- What a commit of an upload of g makes of the waste of nodes, by its kind and whether it took effect. The nodes of a PUT become
+-- the graph's, so the nodes that the graph had join; those of an upload without effect may join themselves.
+abbrev pub UploadNodes : Totals → UploadKind → Graph → Bool → List Lifetime → List Lifetime → Type 0
+UploadNodes v (Put t) g true old new = Joins (EndsAt (v.commit + 1)) (size_at v.dataset t) old new
+UploadNodes v (Post t) g true old new = JoinsBoth v.commit (size_of g) (most_for_new * size_of g) old new
+UploadNodes v New g true old new = JoinsBoth v.commit (size_of g) (most_for_new * size_of g) old new
+UploadNodes v k g false old new = Joins IsUnreached (size_of g) old new
 
 -- the most nodes that these operations may replace in a graph, by the triples that come to it and go from it on the way
 abbrev pub most_patched : Option Graph → List Op → ℕ
 most_patched None ops = 0
 most_patched (Some g) ops = most_for_new * inserted_by g ops + most_for_gone * removed_by g ops
 
--- What operations on the graph of t make of the waste. Where they took effect, nodes that they took out join it, nodes that
--- only lived between them, and the record that the graph had; and else the patch's own.
-abbrev pub WastesOperations : Totals → Target → List Op → Bool → List Lifetime → List Lifetime → Type 0
-WastesOperations v t ops true old new =
-    Joins (λ l. IsUnreached l ⊎ EndsAt (v.commit + 1) l)
-    (most_patched (graph_at v.dataset t) ops + records_at v.dataset t + unused_for t (patched (graph_at v.dataset t) ops)) old new
-WastesOperations v t ops false old new = Joins IsUnreached 1 old new
+-- what operations on the graph of t make of it: where they took effect, nodes that they took out join it, and nodes that only
+-- lived between them; and else none
+abbrev pub UpdateNodes : Totals → Target → List Op → Bool → List Lifetime → List Lifetime → Type 0
+UpdateNodes v t ops true old new =
+    Joins (λ l. IsUnreached l ⊎ EndsAt (v.commit + 1) l) (most_patched (graph_at v.dataset t) ops) old new
+UpdateNodes v t ops false old new = new ≡ old
 
--- what a CommitPatch makes of the waste, by the phase of its seat
-abbrev pub WastesPatch : Totals → Option SeatView → List Op → Bool → List Lifetime → List Lifetime → Type 0
-WastesPatch v (Some (Patching t r)) ops done old new = WastesOperations v t ops done old new
-WastesPatch v p ops done old new = new ≡ old
+-- what a Delete of t makes of it: the nodes that its graph had join it, where it had one, and else none
+abbrev pub DeleteNodes : Totals → Target → Bool → List Lifetime → List Lifetime → Type 0
+DeleteNodes v t true old new = Joins (EndsAt (v.commit + 1)) (size_at v.dataset t) old new
+DeleteNodes v t false old new = new ≡ old
 
--- what a Delete of t makes of the waste: the nodes and the record of its graph join it, where it had one, and else none
-abbrev pub WastesDelete : Totals → Target → Bool → List Lifetime → List Lifetime → Type 0
-WastesDelete v t true old new = Joins (EndsAt (v.commit + 1)) (size_at v.dataset t + records_at v.dataset t) old new
-WastesDelete v t false old new = new ≡ old
+-- what an action that was answered so makes of the waste of nodes, by the phase of its seat: a refused one nothing
+abbrev pub WastesNodes : Totals → SeatView → Action → Answer → List Lifetime → List Lifetime → Type 0
+WastesNodes v (Writing k r g) Commit (Status s name) old new = UploadNodes v k g (is_success s) old new
+WastesNodes v (Patching t r) (CommitPatch ops) (Status s name) old new = UpdateNodes v t ops.items (is_success s) old new
+WastesNodes v p (Delete t) (Status s name) old new = DeleteNodes v t (is_success s) old new
+WastesNodes v (Writing k r g) Cancel Cancelled old new = Joins IsUnreached (size_of g) old new
+WastesNodes v p action a old new = new ≡ old
 
--- what a Cancel makes of the waste, by the phase of its seat: the nodes of an upload join it, and the record of an upload or
--- a patch
-abbrev pub WastesCancel : Option SeatView → List Lifetime → List Lifetime → Type 0
-WastesCancel (Some (Writing k r g)) old new = Joins IsUnreached (size_of g + 1) old new
-WastesCancel (Some (Patching t r)) old new = Joins IsUnreached 1 old new
-WastesCancel p old new = new ≡ old
+-- What a commit that makes g the graph of t makes of the waste of records: its own record joins where it is not used, and the one that
+-- the graph had.
+abbrev pub CommitRecords : Totals → Target → Graph → List Lifetime → List Lifetime → Type 0
+CommitRecords v t g old new = JoinsBoth v.commit (unused_for t g) (records_at v.dataset t) old new
+
+-- what a commit of an upload of g makes of it, by its kind and whether it took effect; a new graph's name had no record
+abbrev pub UploadRecords : Totals → UploadKind → Graph → Bool → List Lifetime → List Lifetime → Type 0
+UploadRecords v (Put t) g true old new = CommitRecords v t g old new
+UploadRecords v (Post t) g true old new = CommitRecords v t (united (graph_at v.dataset t) g) old new
+UploadRecords v New g true old new = JoinsBoth v.commit 0 0 old new
+UploadRecords v k g false old new = Joins IsUnreached 1 old new
+
+-- what operations on the graph of t make of it
+abbrev pub UpdateRecords : Totals → Target → List Op → Bool → List Lifetime → List Lifetime → Type 0
+UpdateRecords v t ops true old new = CommitRecords v t (patched (graph_at v.dataset t) ops) old new
+UpdateRecords v t ops false old new = Joins IsUnreached 1 old new
+
+-- what a Delete of t makes of it: the record of its graph joins it, where it had one
+abbrev pub DeleteRecords : Totals → Target → Bool → List Lifetime → List Lifetime → Type 0
+DeleteRecords v t true old new = Joins (EndsAt (v.commit + 1)) (records_at v.dataset t) old new
+DeleteRecords v t false old new = new ≡ old
+
+-- what an action that was answered so makes of the waste of records, by the phase of its seat: a refused one nothing
+abbrev pub WastesRecords : Totals → SeatView → Action → Answer → List Lifetime → List Lifetime → Type 0
+WastesRecords v (Writing k r g) Commit (Status s name) old new = UploadRecords v k g (is_success s) old new
+WastesRecords v (Patching t r) (CommitPatch ops) (Status s name) old new = UpdateRecords v t ops.items (is_success s) old new
+WastesRecords v p (Delete t) (Status s name) old new = DeleteRecords v t (is_success s) old new
+WastesRecords v (Writing k r g) Cancel Cancelled old new = Joins IsUnreached 1 old new
+WastesRecords v (Patching t r) Cancel Cancelled old new = Joins IsUnreached 1 old new
+WastesRecords v p action a old new = new ≡ old
+
+-- what an action makes of the waste: first of that of nodes, and then of that of records
+pub record WastesBoth (v : Totals) (p : SeatView) (action : Action) (a : Answer) (old new : List Lifetime) : Type 0 where
+  pub between : List Lifetime
+  pub nodes : WastesNodes v p action a old between
+  pub records : WastesRecords v p action a between new
+
+-- the same, where there may be no such seat
+abbrev pub WastesIf : Totals → Option SeatView → Action → Answer → List Lifetime → List Lifetime → Type 0
+WastesIf v None action a old new = new ≡ old
+WastesIf v (Some p) action a old new = WastesBoth v p action a old new
 
 -- as many nodes and records as may be are taken out of the waste, none that a pinned version needs, and nothing else;
 -- its order means nothing
@@ -119,18 +148,11 @@ pub record Frees (pins : List (Option ℕ)) (n freed : ℕ) (left : Bool) (old n
   pub none_needed : All (λ l. is_needed pins l ≡ false) gone
   pub left_is : IsTrue left ↔ (new ≢ [])
 
--- what an event that was answered so makes of the waste: a refused one nothing
+-- what an event that was answered so makes of the waste
 abbrev pub Wastes : Shown → Event → Answer → List Lifetime → Type 0
 Wastes old (Reclaim n) (Reclaimed freed left) new = Frees old.pinned n freed left old.waste new
-Wastes old (At s Commit) (Status status name) new =
-    WastesCommit old.view.totals (slice_get old.view.seats s) (is_success status) old.waste new
-Wastes old (At s (CommitPatch ops)) (Status status name) new =
-    WastesPatch old.view.totals (slice_get old.view.seats s) ops.items (is_success status) old.waste new
-Wastes old (At s (Delete t)) (Status status name) new =
-    WastesDelete old.view.totals t (is_success status) old.waste new
-Wastes old (At s Cancel) Cancelled new = WastesCancel (slice_get old.view.seats s) old.waste new
-Wastes old (At s action) a new = new ≡ old.waste
 Wastes old (Reclaim n) a new = ⊥
+Wastes old (At s action) a new = WastesIf old.view.totals (slice_get old.view.seats s) action a old.waste new
 
 -- the answer fits, and the values before and after it are those of one step
 pub record Steps (old : Shown) (e : Event) (a : Answer) (new : Shown) : Type 0 where

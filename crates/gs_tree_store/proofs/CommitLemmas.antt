@@ -40,7 +40,7 @@ use Rattle.gs_commit.proofs.LawLemmas.{leaf_upload}
 use Rattle.gs_tree_store.specs.declared.books.Books.{Books}
 use Rattle.gs_tree_store.specs.Books.{graphs_of, dataset_of, totals_of, IsFound, IsSound, HasLedger}
 use Rattle.gs_tree_store.specs.Opened.{SameOpened}
-use Rattle.gs_tree_store.specs.RecordWaste.{DeleteRecords}
+use Rattle.gs_event.specs.Steps.{DeleteRecords}
 use Rattle.gs_tree_store.specs.Writes.{KeepsBooks, EndsOneVersion, Puts, Removes}
 use Rattle.gs_tree_store.proofs.RecordLemmas.{commit_wastes}
 use Rattle.gs_tree_store.proofs.OpenedLemmas.{put_lets_go}

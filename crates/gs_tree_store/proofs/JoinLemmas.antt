@@ -18,8 +18,10 @@ use Rattle.gs_event.specs.Phases.{Writing, Patching}
 use Rattle.gs_event.specs.Views.{Totals, SeatView}
 use Rattle.gs_event.specs.Waste.{Lifetime, is_needed, unneeded}
 use Rattle.gs_event.specs.Steps.{Joins, JoinsBoth, IsUnreached, EndsAt, most_for_new, most_patched, WastesUpload, WastesCommit, WastesOperations, WastesPatch, WastesDelete, WastesCancel, Frees}
-use Rattle.gs_tree_store.specs.NodeWaste.{UploadNodes, UpdateNodes, DeleteNodes, WastesNodes, TakesNodes}
-use Rattle.gs_tree_store.specs.RecordWaste.{UploadRecords, UpdateRecords, DeleteRecords, WastesRecords, TakesRecords}
+use Rattle.gs_event.specs.Steps.{UploadNodes, UpdateNodes, DeleteNodes, WastesNodes}
+use Rattle.gs_tree_store.specs.Actions.{TakesNodes}
+use Rattle.gs_event.specs.Steps.{UploadRecords, UpdateRecords, DeleteRecords, WastesRecords}
+use Rattle.gs_tree_store.specs.Opened.{TakesRecords}
 use Rattle.gs_tree_store.specs.Actions.{SeatUses}
 
 -- what joins each joins both

@@ -18,7 +18,8 @@ use Rattle.gs_tree_store.specs.declared.books.Books.{Books}
 use Rattle.gs_tree_store.specs.declared.books.Seat.{Seat}
 use Rattle.gs_tree_store.specs.declared.books.Seat.TheVariants.{Idle, Writing, Patching, Reading}
 use Rattle.gs_tree_store.specs.Books.{totals_of, seat_view_by}
-use Rattle.gs_tree_store.specs.RecordWaste.{WastesRecords, TakesRecords}
+use Rattle.gs_event.specs.Steps.{WastesRecords}
+use Rattle.gs_tree_store.specs.Opened.{TakesRecords}
 use Rattle.gs_tree_store.specs.Opened.{own_record, own_count, IsOpened, HasRecord, SameOpened, LetsGo, IsOther, KeepsRecords, own_record_at, HaveRecords}
 use Rattle.gs_tree_store.proofs.RecordLemmas.{given_up}
 

@@ -46,7 +46,7 @@ use Rattle.gs_tree_store.specs.declared.books.Seat.{Seat}
 use Rattle.gs_tree_store.specs.declared.books.Seat.TheVariants.{Idle, Patching}
 use Rattle.gs_tree_store.specs.Books.{graphs_of, books_setting, dataset_of, totals_of, IsReady}
 use Rattle.gs_tree_store.specs.Drafts.{Drafts}
-use Rattle.gs_tree_store.specs.NodeWaste.{UpdateNodes}
+use Rattle.gs_event.specs.Steps.{UpdateNodes}
 use Rattle.gs_tree_store.specs.Actions.{Acts}
 use Rattle.gs_tree_store.proofs.AlikeLemmas.{SameNow, with_records, acts_alike}
 use Rattle.gs_tree_store.proofs.CommitLemmas.{version_or}

@@ -48,7 +48,7 @@ use Rattle.gs_tree_store.specs.Books.{graphs_of, books_setting, dataset_of, tota
 use Rattle.gs_tree_store.specs.Drafts.{CanDraft, IsRun, Drafts}
 use Rattle.gs_tree_store.specs.Uploads.{TakesKeys, MakesAgain}
 use Rattle.gs_tree_store.specs.Verdicts.{HasCounts}
-use Rattle.gs_tree_store.specs.NodeWaste.{UploadNodes}
+use Rattle.gs_event.specs.Steps.{UploadNodes}
 use Rattle.gs_tree_store.specs.Actions.{Acts, IsReadyAny}
 use Rattle.gs_tree_store.proofs.AlikeLemmas.{SameNow, with_records, acts_alike}
 use Rattle.gs_tree_store.proofs.CommitLemmas.{version_or}

@@ -43,7 +43,7 @@ use Rattle.gs_tree_store.specs.declared.books.Books.{Books}
 use Rattle.gs_tree_store.specs.declared.books.Seat.{Seat}
 use Rattle.gs_tree_store.specs.declared.books.Seat.TheVariants.{Writing, Patching}
 use Rattle.gs_tree_store.specs.Books.{graphs_of, dataset_of, totals_of, IsSound}
-use Rattle.gs_tree_store.specs.RecordWaste.{CommitRecords, DeleteRecords}
+use Rattle.gs_event.specs.Steps.{CommitRecords, DeleteRecords}
 use Rattle.gs_tree_store.specs.Actions.{Acts}
 use Rattle.gs_tree_store.proofs.VerdictLemmas.{size_of_version}
 

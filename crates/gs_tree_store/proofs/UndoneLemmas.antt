@@ -25,7 +25,8 @@ use Rattle.gs_tree_store.specs.declared.books.Books.{Books}
 use Rattle.gs_tree_store.specs.declared.books.Seat.{Seat}
 use Rattle.gs_tree_store.specs.declared.books.Seat.TheVariants.{Idle, Writing, Patching, Reading}
 use Rattle.gs_tree_store.specs.Books.{graphs_of, books_setting, dataset_of, totals_of, seat_view_by, upload_tree, read_trees, is_reading, IsSeat, IsSound, IsReady, HasLedgerAt}
-use Rattle.gs_tree_store.specs.NodeWaste.{WastesNodes, TakesNodes}
+use Rattle.gs_event.specs.Steps.{WastesNodes}
+use Rattle.gs_tree_store.specs.Actions.{TakesNodes}
 use Rattle.gs_tree_store.specs.Actions.{Acts}
 use Rattle.gs_tree_store.proofs.SeatLemmas.{SameGraphs, same_graphs, same_totals, ledger_stays}
 

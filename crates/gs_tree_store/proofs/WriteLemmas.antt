@@ -41,7 +41,8 @@ use Rattle.gs_tree_store.specs.declared.books.Seat.TheVariants.{Idle, Writing}
 use Rattle.gs_tree_store.specs.Books.{graphs_of, books_setting, dataset_of, totals_of, upload_tree, IsSound, HasLedger, HasLedgerAt, IsReady}
 use Rattle.gs_tree_store.specs.Writes.{HasUpload, EndsOneVersion, Puts, Removes}
 use Rattle.gs_tree_store.specs.Verdicts.{HasCounts}
-use Rattle.gs_tree_store.specs.NodeWaste.{UploadNodes, DeleteNodes, TakesNodes}
+use Rattle.gs_event.specs.Steps.{UploadNodes, DeleteNodes}
+use Rattle.gs_tree_store.specs.Actions.{TakesNodes}
 use Rattle.gs_tree_store.specs.Actions.{Acts, IsReadyAny}
 use Rattle.gs_tree_store.proofs.AlikeLemmas.{SameNow, acts_alike}
 use Rattle.gs_tree_store.proofs.CommitLemmas.{roots_same}

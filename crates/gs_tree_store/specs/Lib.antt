@@ -1,9 +1,6 @@
--- Read in this order: what books and seats show, what an action makes of the waste of nodes and of records, which records the seats
--- have open, what a write makes of the books, what an action makes of them and of a seat, how many nodes and records that takes, and
--- what is true of every store.
+-- Read in this order: what books and seats show, which records the seats have open, what a write makes of the books, what an action makes
+-- of them and of a seat, how many nodes and records that takes, and what is true of every store.
 pub mod Books
-pub mod NodeWaste
-pub mod RecordWaste
 pub mod Opened
 pub mod Writes
 pub mod Verdicts

@@ -2,14 +2,16 @@
 use Rattle.std.specs.Prelude.{◌≡◌, ◌≢◌, ℕ, ◌+◌, List, Option, Some, None, slice_index_or}
 use Rattle.std.specs.List.{sum_by}
 use Rattle.gs_event.specs.declared.events.Action.{Action}
+use Rattle.gs_event.specs.declared.events.Action.TheVariants.{Open, OpenPatch}
 use Rattle.gs_event.specs.declared.answers.Answer.{Answer}
+use Rattle.gs_event.specs.declared.answers.Answer.TheVariants.{Opened}
+use Rattle.gs_event.specs.Steps.{WastesRecords}
 use Rattle.gs_records.specs.Records.{opened, record_at}
 use Rattle.gs_records.specs.Waste.{waste_in, open_count, used_count}
 use Rattle.gs_tree_store.specs.declared.books.Books.{Books}
 use Rattle.gs_tree_store.specs.declared.books.Seat.{Seat}
 use Rattle.gs_tree_store.specs.declared.books.Seat.TheVariants.{Idle, Writing, Patching}
 use Rattle.gs_tree_store.specs.Books.{totals_of, seat_view_by}
-use Rattle.gs_tree_store.specs.RecordWaste.{WastesRecords, TakesRecords}
 
 -- the number of the record that a seat has open
 abbrev pub own_record : Seat → Option ℕ
@@ -46,8 +48,14 @@ pub record IsOther (b : Books) (s : Seat) (n : ℕ) : Type 0 where
   pub open_now : IsOpened b n
   pub other : own_record s ≢ Some n
 
--- The seat's record is open, if it was, and beside it is open what was open beside that of the seat before. So many records are open and in
--- use as its action makes of them, and so is the waste.
+-- how many records are in use after an action that was answered so: one more after an Open
+abbrev pub TakesRecords : Action → Answer → ℕ → ℕ → Type 0
+TakesRecords (Open k) (Opened r) old new = new ≡ old + 1
+TakesRecords (OpenPatch t) (Opened r) old new = new ≡ old + 1
+TakesRecords action a old new = new ≡ old
+
+-- The seat's record is open, if it was, and beside it is open what was open beside that of the seat before. As many are open as the seat
+-- says, as many are in use as its action says, and so of their waste.
 pub record KeepsRecords (old new : Books) (was now : Seat) (action : Action) (answer : Answer) : Type 0 where
   pub own : HasRecord old was → HasRecord new now
   pub others : (n : ℕ) → IsOther old was n → IsOther new now n
@@ -60,7 +68,7 @@ pub record KeepsRecords (old new : Books) (was now : Seat) (action : Action) (an
 abbrev pub own_record_at : List Seat → ℕ → Option ℕ
 own_record_at seats k = own_record (slice_index_or seats k Idle)
 
--- the record of each seat is open, no two seats have the same, and no other record is open: so many are
+-- the record of each seat is open, no two seats have the same, and no other record is open: as many are as seats have one
 pub record HaveRecords (b : Books) (seats : List Seat) : Type 0 where
   pub open_now : (k n : ℕ) → own_record_at seats k ≡ Some n → IsOpened b n
   pub apart : (j k n : ℕ) → own_record_at seats j ≡ Some n → own_record_at seats k ≡ Some n → j ≡ k

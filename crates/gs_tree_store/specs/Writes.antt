@@ -2,7 +2,7 @@
 use Rattle.std.specs.Prelude.{◌≡◌, ℕ, ◌+◌, true, List, ◌∷◌, string_bytes}
 use Rattle.gs_term.specs.declared.names.Target.{Target}
 use Rattle.gs_event.specs.Datasets.{with_graph, without_graph, size_at}
-use Rattle.gs_event.specs.Steps.{Joins, EndsAt}
+use Rattle.gs_event.specs.Steps.{Joins, EndsAt, CommitRecords, DeleteRecords}
 use Rattle.gs_keys.specs.Roots.{graph_of_root}
 use Rattle.gs_tree.specs.Tree.{Tree, tree_at}
 use Rattle.gs_catalogue.specs.declared.versions.GraphVersion.{GraphVersion}
@@ -12,7 +12,6 @@ use Rattle.gs_records.specs.Calls.{KeepsCounts, UsesOne}
 use Rattle.gs_datasets.specs.Standing.{IsVersion}
 use Rattle.gs_tree_store.specs.declared.books.Books.{Books}
 use Rattle.gs_tree_store.specs.Books.{totals_of, dataset_of, IsSound, HasLedger}
-use Rattle.gs_tree_store.specs.RecordWaste.{CommitRecords, DeleteRecords}
 use Rattle.gs_tree_store.specs.Opened.{LetsGo, SameOpened}
 
 -- some trees of the seats have a ledger with the books

@@ -7,7 +7,7 @@ use Rattle.gs_records.specs.Waste.{waste_in}
 use Rattle.gs_tree_store.specs.declared.books.Books.{Books}
 use Rattle.gs_tree_store.specs.declared.books.Seat.TheVariants.{Idle, Patching}
 use Rattle.gs_tree_store.specs.Books.{totals_of}
-use Rattle.gs_tree_store.specs.RecordWaste.{UpdateRecords}
+use Rattle.gs_event.specs.Steps.{UpdateRecords}
 use Rattle.gs_tree_store.specs.Opened.{own_record}
 use Rattle.gs_tree_store.specs.Actions.{Acts}
 use Rattle.gs_tree_store.proofs.RecordLemmas.{granted_well, patch_wastes}

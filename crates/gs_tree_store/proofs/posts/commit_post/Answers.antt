@@ -8,7 +8,7 @@ use Rattle.gs_tree_store.specs.declared.books.Books.{Books}
 use Rattle.gs_tree_store.specs.declared.books.Seat.TheVariants.{Writing}
 use Rattle.gs_tree_store.specs.Books.{totals_of}
 use Rattle.gs_tree_store.specs.Uploads.{TakesKeys}
-use Rattle.gs_tree_store.specs.RecordWaste.{UploadRecords}
+use Rattle.gs_event.specs.Steps.{UploadRecords}
 use Rattle.gs_tree_store.specs.Opened.{own_record}
 use Rattle.gs_tree_store.specs.Actions.{Acts}
 use Rattle.gs_tree_store.proofs.RecordLemmas.{granted_well, post_wastes}

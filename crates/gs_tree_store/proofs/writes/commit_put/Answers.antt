@@ -10,7 +10,7 @@ use Rattle.gs_records.specs.Waste.{waste_in}
 use Rattle.gs_tree_store.specs.declared.books.Books.{Books}
 use Rattle.gs_tree_store.specs.declared.books.Seat.TheVariants.{Writing}
 use Rattle.gs_tree_store.specs.Books.{books_setting, dataset_of, totals_of}
-use Rattle.gs_tree_store.specs.RecordWaste.{UploadRecords}
+use Rattle.gs_event.specs.Steps.{UploadRecords}
 use Rattle.gs_tree_store.specs.Opened.{own_record}
 use Rattle.gs_tree_store.specs.Actions.{Acts}
 use Rattle.gs_tree_store.proofs.VerdictLemmas.{is_stored, is_not_stored}

@@ -5,7 +5,7 @@ use Rattle.gs_event.specs.Operations.{is_success}
 use Rattle.gs_records.specs.Waste.{waste_in}
 use Rattle.gs_tree_store.specs.declared.books.Seat.TheVariants.{Idle}
 use Rattle.gs_tree_store.specs.Books.{totals_of, IsReady}
-use Rattle.gs_tree_store.specs.RecordWaste.{DeleteRecords}
+use Rattle.gs_event.specs.Steps.{DeleteRecords}
 use Rattle.gs_tree_store.specs.Opened.{KeepsRecords}
 use Rattle.gs_tree_store.specs.Actions.{Acts}
 use Rattle.gs_tree_store.proofs.OpenedLemmas.{open_stays}
