@@ -9,7 +9,7 @@ use Rattle.gs_model.specs.Limits.{last_number}
 use Rattle.gs_term.specs.declared.names.Target.{Target}
 use Rattle.gs_term.specs.declared.names.Target.TheVariants.{Default, Named}
 use Rattle.gs_event.specs.Datasets.{with_graph, size_at}
-use Rattle.gs_event.specs.Steps.{Joins, EndsAt}
+use Rattle.gs_event.specs.Steps.{Joins, EndsAt, DeleteRecords}
 use Rattle.gs_pool.specs.Pool.{Nodes, aside_count}
 use Rattle.gs_tree.specs.Tree.{Tree, leaf, root_of, keys, tree_at}
 use Rattle.gs_keys.specs.Roots.{graph_of_root}
@@ -40,7 +40,6 @@ use Rattle.gs_commit.proofs.LawLemmas.{leaf_upload}
 use Rattle.gs_tree_store.specs.declared.books.Books.{Books}
 use Rattle.gs_tree_store.specs.Books.{graphs_of, dataset_of, totals_of, IsFound, IsSound, HasLedger}
 use Rattle.gs_tree_store.specs.Opened.{SameOpened}
-use Rattle.gs_event.specs.Steps.{DeleteRecords}
 use Rattle.gs_tree_store.specs.Writes.{KeepsBooks, EndsOneVersion, Puts, Removes}
 use Rattle.gs_tree_store.proofs.RecordLemmas.{commit_wastes}
 use Rattle.gs_tree_store.proofs.OpenedLemmas.{put_lets_go}

@@ -9,7 +9,7 @@ use Rattle.gs_term.specs.declared.names.Target.{Target}
 use Rattle.gs_event.specs.declared.events.Action.{Action}
 use Rattle.gs_event.specs.declared.answers.Answer.{Answer}
 use Rattle.gs_event.specs.declared.answers.Answer.TheVariants.{Refused}
-use Rattle.gs_event.specs.Steps.{Joins, IsUnreached}
+use Rattle.gs_event.specs.Steps.{Joins, IsUnreached, WastesRecords}
 use Rattle.gs_catalogue.specs.declared.versions.GraphVersion.{GraphVersion}
 use Rattle.gs_records.specs.Records.{Record, free, opened, unused, kept, Recorded, record_at, ended, Turns, Ends}
 use Rattle.gs_records.specs.Calls.{KeepsCounts, UsesOne, is_nothing, made_record, placed, Opens, GivesUp, MakesCurrent}
@@ -18,9 +18,7 @@ use Rattle.gs_tree_store.specs.declared.books.Books.{Books}
 use Rattle.gs_tree_store.specs.declared.books.Seat.{Seat}
 use Rattle.gs_tree_store.specs.declared.books.Seat.TheVariants.{Idle, Writing, Patching, Reading}
 use Rattle.gs_tree_store.specs.Books.{totals_of, seat_view_by}
-use Rattle.gs_event.specs.Steps.{WastesRecords}
-use Rattle.gs_tree_store.specs.Opened.{TakesRecords}
-use Rattle.gs_tree_store.specs.Opened.{own_record, own_count, IsOpened, HasRecord, SameOpened, LetsGo, IsOther, KeepsRecords, own_record_at, HaveRecords}
+use Rattle.gs_tree_store.specs.Opened.{TakesRecords, own_record, own_count, IsOpened, HasRecord, SameOpened, LetsGo, IsOther, KeepsRecords, own_record_at, HaveRecords}
 use Rattle.gs_tree_store.proofs.RecordLemmas.{given_up}
 
 -- what an action makes of the number of records in use, and of their waste

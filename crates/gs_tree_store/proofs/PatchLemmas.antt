@@ -23,10 +23,10 @@ use Rattle.gs_event.specs.Operations.{Setting, Patches, after, status_of, stored
 use Rattle.gs_event.specs.Views.{Totals}
 use Rattle.gs_event.specs.Waste.{Lifetime}
 use Rattle.gs_event.specs.Verdicts.{verdict_of, holdings_of, place_in, DecidesChange}
-use Rattle.gs_event.specs.Steps.{Joins, IsUnreached, EndsAt, most_patched}
+use Rattle.gs_event.specs.Steps.{Joins, IsUnreached, EndsAt, most_patched, UpdateNodes}
 use Rattle.gs_event.proofs.VerdictLemmas.{store_must}
 use Rattle.gs_dict.specs.Numbering.{Numbered}
-use Rattle.gs_pool.specs.Pool.{Nodes, aside_count}
+use Rattle.gs_pool.specs.Pool.{Nodes, in_use, aside_count}
 use Rattle.gs_tree.specs.Tree.{leaf, tree_at}
 use Rattle.gs_keys.specs.Roots.{graph_of_root}
 use Rattle.gs_changes.specs.Endings.{Restores, UndoesAll}
@@ -46,8 +46,7 @@ use Rattle.gs_tree_store.specs.declared.books.Seat.{Seat}
 use Rattle.gs_tree_store.specs.declared.books.Seat.TheVariants.{Idle, Patching}
 use Rattle.gs_tree_store.specs.Books.{graphs_of, books_setting, dataset_of, totals_of, IsReady}
 use Rattle.gs_tree_store.specs.Drafts.{Drafts}
-use Rattle.gs_event.specs.Steps.{UpdateNodes}
-use Rattle.gs_tree_store.specs.Actions.{Acts}
+use Rattle.gs_tree_store.specs.Actions.{SameUnless, Acts}
 use Rattle.gs_tree_store.proofs.AlikeLemmas.{SameNow, with_records, acts_alike}
 use Rattle.gs_tree_store.proofs.CommitLemmas.{version_or}
 use Rattle.gs_tree_store.proofs.VerdictLemmas.{size_of_version, is_stored, is_not_stored, would_be_stored}
@@ -140,7 +139,7 @@ without_effect b s t n o ops status is fails same ready =
         ledger = ledger_stays b s Idle us rs l.read l.there l.ledger;
         waste = subst (λ x. UpdateNodes (totals_of b) t ops.items x (waste_at b.pool) (waste_at b.pool)) (sym fails) refl;
       };
-      takes = tt;
+      takes = subst (λ x. SameUnless x (in_use b.pool) (in_use b.pool)) (sym fails) refl;
     }
 
 -- the target has no graph: nothing changes, and the seat is idle
@@ -232,5 +231,5 @@ patch_kept b d q r w c s t n o ops v birth status triples names born grows made 
             waste = subst (λ x. UpdateNodes (totals_of b) t ops.items x (waste_at b.pool) (waste_at r)) (sym stored.well)
                 (subst (λ k. Joins (λ (l : Lifetime). IsUnreached l ⊎ EndsAt (b.versions.commit + 1) l) k (waste_at b.pool) (waste_at r)) (most_is b t there ops.items) joins);
           };
-      takes = tt;
+      takes = subst (λ x. SameUnless x (in_use b.pool) (in_use r)) (sym stored.well) tt;
     }

@@ -20,7 +20,7 @@ use Rattle.gs_event.specs.Phases as phase
 use Rattle.gs_event.specs.Views.{FitsSeat}
 use Rattle.gs_event.specs.Verdicts.{verdict_of, holdings_of, place_in, DecidesStore}
 use Rattle.gs_event.proofs.VerdictLemmas.{store_may}
-use Rattle.gs_event.specs.Steps.{IsUnreached, EndsAt, Joins}
+use Rattle.gs_event.specs.Steps.{IsUnreached, EndsAt, Joins, UploadNodes}
 use Rattle.gs_pool.specs.declared.nodes.Key.{Key}
 use Rattle.gs_pool.specs.Pool.{Nodes, in_use, aside_count, room}
 use Rattle.gs_tree.specs.Tree.{Tree, leaf, keys, occurrences, BirthAtMost, tree_at}
@@ -48,7 +48,6 @@ use Rattle.gs_tree_store.specs.Books.{graphs_of, books_setting, dataset_of, tota
 use Rattle.gs_tree_store.specs.Drafts.{CanDraft, IsRun, Drafts}
 use Rattle.gs_tree_store.specs.Uploads.{TakesKeys, MakesAgain}
 use Rattle.gs_tree_store.specs.Verdicts.{HasCounts}
-use Rattle.gs_event.specs.Steps.{UploadNodes}
 use Rattle.gs_tree_store.specs.Actions.{Acts, IsReadyAny}
 use Rattle.gs_tree_store.proofs.AlikeLemmas.{SameNow, with_records, acts_alike}
 use Rattle.gs_tree_store.proofs.CommitLemmas.{version_or}

@@ -27,7 +27,7 @@ use Rattle.gs_event.specs.Operations.{Setting, is_within, united, stored, stored
 use Rattle.gs_event.specs.Verdicts.{verdict_of}
 use Rattle.gs_event.specs.Views.{Totals}
 use Rattle.gs_event.specs.Waste.{Lifetime}
-use Rattle.gs_event.specs.Steps.{Joins, JoinsBoth, IsUnreached, EndsAt}
+use Rattle.gs_event.specs.Steps.{Joins, JoinsBoth, IsUnreached, EndsAt, CommitRecords, DeleteRecords}
 use Rattle.gs_event.proofs.NameLemmas.{new_name-is_least}
 use Rattle.gs_event.proofs.VerdictLemmas.{made_well}
 use Rattle.gs_pool.specs.Pool.{Nodes}
@@ -43,7 +43,6 @@ use Rattle.gs_tree_store.specs.declared.books.Books.{Books}
 use Rattle.gs_tree_store.specs.declared.books.Seat.{Seat}
 use Rattle.gs_tree_store.specs.declared.books.Seat.TheVariants.{Writing, Patching}
 use Rattle.gs_tree_store.specs.Books.{graphs_of, dataset_of, totals_of, IsSound}
-use Rattle.gs_event.specs.Steps.{CommitRecords, DeleteRecords}
 use Rattle.gs_tree_store.specs.Actions.{Acts}
 use Rattle.gs_tree_store.proofs.VerdictLemmas.{size_of_version}
 

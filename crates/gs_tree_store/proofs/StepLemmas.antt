@@ -1,18 +1,16 @@
 -- What a seat's action makes of a store is one step.
-use Rattle.std.proofs.Common.{◌≡◌, ℕ, ◌+◌, ◌<◌, ◌≤◌, List, map, length, get_or, set, Some, None, option_map, refl, sym, ap, ◌∙◌, subst}
+use Rattle.std.proofs.Common.{◌≡◌, ℕ, ◌+◌, ◌<◌, ◌≤◌, map, length, get_or, set, Some, None, option_map, refl, sym, ap, ◌∙◌, subst}
 use Rattle.std.specs.List.{slice_get, slice_set}
 use Rattle.std.proofs.lemmas.List.{set-get_or}
 use Rattle.std.proofs.lemmas.Option.{slice_get-map, slice_get-get_or, slice_get_past}
 use Rattle.gs_model.specs.declared.refusals.Refusal.TheVariants.{BadSeat}
 use Rattle.gs_event.specs.declared.events.Action.{Action}
-use Rattle.gs_event.specs.declared.events.Action.TheVariants.{Commit, CommitPatch, Delete, Cancel}
 use Rattle.gs_event.specs.declared.events.Event.TheVariants.{Seat as At, Reclaim}
 use Rattle.gs_event.specs.declared.answers.Answer.{Answer}
-use Rattle.gs_event.specs.declared.answers.Answer.TheVariants.{Status, Cancelled, Reclaimed, Refused}
-use Rattle.gs_event.specs.Operations.{is_success}
-use Rattle.gs_event.specs.Views.{SeatView, next_at, next_if}
-use Rattle.gs_event.specs.Waste.{Lifetime, Shown, nodes_in}
-use Rattle.gs_event.specs.Steps.{WastesCommit, WastesPatch, WastesCancel, Wastes, Steps}
+use Rattle.gs_event.specs.declared.answers.Answer.TheVariants.{Reclaimed, Refused}
+use Rattle.gs_event.specs.Views.{next_at, next_if}
+use Rattle.gs_event.specs.Waste.{Shown, nodes_in}
+use Rattle.gs_event.specs.Steps.{WastesBoth, WastesIf, Steps}
 use Rattle.gs_event.proofs.PinLemmas.{refused_pin}
 use Rattle.gs_event.proofs.NodeLemmas.{gives_back}
 use Rattle.gs_pool.specs.Pool.{in_use}
@@ -26,17 +24,9 @@ use Rattle.gs_tree_store.specs.Opened.{KeepsRecords}
 use Rattle.gs_tree_store.specs.Actions.{SeatUses, Acts}
 use Rattle.gs_tree_store.specs.Uses.{UsesAt, UsesNodes}
 use Rattle.gs_tree_store.specs.Kept.{shown_of, IsKept}
-use Rattle.gs_tree_store.proofs.JoinLemmas.{SeatWastes, both_waste, both_take}
+use Rattle.gs_tree_store.proofs.JoinLemmas.{both_waste, both_take}
 use Rattle.gs_tree_store.proofs.CountLemmas.{nodes_kept}
 use Rattle.gs_tree_store.proofs.KeptLemmas.{goes_on, others_shown}
-
--- what a seat's action makes of the waste, where the seat is there
-seat_wasted : (old : Shown) (s : ℕ) (p : SeatView) (action : Action) (a : Answer) (new : List Lifetime) → slice_get old.view.seats s ≡ Some p → SeatWastes old.view.totals p action a old.waste new → Wastes old (At s action) a new
-seat_wasted old s p Commit (Status status name) new there h = subst (λ o. WastesCommit old.view.totals o (is_success status) old.waste new) (sym there) h
-seat_wasted old s p (CommitPatch ops) (Status status name) new there h = subst (λ o. WastesPatch old.view.totals o ops.items (is_success status) old.waste new) (sym there) h
-seat_wasted old s p (Delete t) (Status status name) new there h = h
-seat_wasted old s p Cancel Cancelled new there h = subst (λ o. WastesCancel o old.waste new) (sym there) h
-seat_wasted old s p action a new there h = h
 
 module _ (a b : Inside) (s : ℕ) (was now : Seat) (action : Action) (answer : Answer) (kept : IsKept a) (within : s < length a.seats.items) (is : was ≡ get_or a.seats.items s was) (seats : b.seats.items ≡ set a.seats.items s now) (acts : Acts a.books b.books s was now action answer) (keeps : KeepsRecords a.books b.books was now action answer) where
   seat_there : slice_get (shown_of a).view.seats s ≡ Some (seat_view_by a.books was)
@@ -49,7 +39,7 @@ module _ (a b : Inside) (s : ℕ) (was now : Seat) (action : Action) (answer : A
       made ∙ sym (ap (λ o. next_if (shown_of a).view s o action answer) seat_there)
 
   -- the waste of nodes, and that of records
-  both_wasted : SeatWastes (totals_of a.books) (seat_view_by a.books was) action answer (shown_of a).waste (shown_of b).waste
+  both_wasted : WastesBoth (totals_of a.books) (seat_view_by a.books was) action answer (shown_of a).waste (shown_of b).waste
   both_wasted = both_waste (totals_of a.books) (seat_view_by a.books was) action answer (waste_at a.books.pool) (waste_at b.books.pool) (waste_in a.books.records.records) (waste_in b.books.records.records)
       (goes_on a b s was now action answer kept within is seats acts).waste keeps.waste
 
@@ -58,7 +48,7 @@ module _ (a b : Inside) (s : ℕ) (was now : Seat) (action : Action) (answer : A
     fits = rw seat_there acts.fits;
     view = next_shown;
     pinned = acts.pins;
-    waste = seat_wasted (shown_of a) s (seat_view_by a.books was) action answer (shown_of b).waste seat_there both_wasted;
+    waste = subst (λ o. WastesIf (totals_of a.books) o action answer (shown_of a).waste (shown_of b).waste) (sym seat_there) both_wasted;
   }
 
   -- an action of a seat that there is
@@ -79,13 +69,6 @@ module _ (a b : Inside) (s : ℕ) (was now : Seat) (action : Action) (answer : A
   pub uses_after : (old : Shown) → shown_of a ≡ old → IsKept b → AreUsed a.books.records.records → AreUsed b.books.records.records → UsesNodes old (At s action) answer (shown_of b)
   uses_after old view after used_before used_after = subst (λ (x : Shown). UsesNodes x (At s action) answer (shown_of b)) view (own_uses after used_before used_after)
 
-none_wasted : (s : Shown) (n : ℕ) (action : Action) → Wastes s (At n action) (Refused BadSeat) s.waste
-none_wasted s n Commit = refl
-none_wasted s n (CommitPatch ops) = refl
-none_wasted s n (Delete t) = refl
-none_wasted s n Cancel = refl
-none_wasted s n action = refl
-
 module _ (a : Inside) (s : ℕ) (action : Action) (past : length a.seats.items ≤ s) where
   none_there : slice_get (shown_of a).view.seats s ≡ None
   none_there = slice_get-map (seat_view_by a.books) a.seats.items s ∙ ap (option_map (seat_view_by a.books)) (slice_get_past a.seats.items s past)
@@ -97,7 +80,7 @@ module _ (a : Inside) (s : ℕ) (action : Action) (past : length a.seats.items �
         fits = rw none_there refl;
         view = sym (ap (λ o. next_if (shown_of a).view s o action (Refused BadSeat)) none_there);
         pinned = sym (set-get_or pins s None) ∙ sym (ap (slice_set pins s) (refused_pin a.books.versions.commit (get_or pins s None) action BadSeat));
-        waste = none_wasted (shown_of a) s action;
+        waste = subst (λ o. WastesIf (totals_of a.books) o action (Refused BadSeat) (shown_of a).waste (shown_of a).waste) (sym none_there) refl;
       }
 
   -- an action of a seat that there is not

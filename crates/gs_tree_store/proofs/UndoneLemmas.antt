@@ -5,7 +5,7 @@ use Rattle.gs_event.specs.declared.events.Action.{Action}
 use Rattle.gs_event.specs.declared.answers.Answer.{Answer}
 use Rattle.gs_event.specs.Phases as phase
 use Rattle.gs_event.specs.Views.{FitsSeat, next_totals, next_phase}
-use Rattle.gs_event.specs.Steps.{pin_after}
+use Rattle.gs_event.specs.Steps.{pin_after, WastesNodes}
 use Rattle.gs_dict.specs.Numbering.{Numbered}
 use Rattle.gs_pool.specs.Pool.{Nodes, in_use}
 use Rattle.gs_tree.specs.Tree.{Tree, root_of, keys, tree_at}
@@ -25,9 +25,7 @@ use Rattle.gs_tree_store.specs.declared.books.Books.{Books}
 use Rattle.gs_tree_store.specs.declared.books.Seat.{Seat}
 use Rattle.gs_tree_store.specs.declared.books.Seat.TheVariants.{Idle, Writing, Patching, Reading}
 use Rattle.gs_tree_store.specs.Books.{graphs_of, books_setting, dataset_of, totals_of, seat_view_by, upload_tree, read_trees, is_reading, IsSeat, IsSound, IsReady, HasLedgerAt}
-use Rattle.gs_event.specs.Steps.{WastesNodes}
-use Rattle.gs_tree_store.specs.Actions.{TakesNodes}
-use Rattle.gs_tree_store.specs.Actions.{Acts}
+use Rattle.gs_tree_store.specs.Actions.{TakesNodes, Acts}
 use Rattle.gs_tree_store.proofs.SeatLemmas.{SameGraphs, same_graphs, same_totals, ledger_stays}
 
 -- the books with other terms and another pool

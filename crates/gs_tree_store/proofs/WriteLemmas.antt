@@ -17,7 +17,7 @@ use Rattle.gs_event.specs.Phases.{write_of}
 use Rattle.gs_event.specs.Phases as phase
 use Rattle.gs_event.specs.Views.{Totals, FitsWrite}
 use Rattle.gs_event.specs.Waste.{Lifetime}
-use Rattle.gs_event.specs.Steps.{Joins, JoinsBoth, IsUnreached, EndsAt, most_for_new}
+use Rattle.gs_event.specs.Steps.{Joins, JoinsBoth, IsUnreached, EndsAt, most_for_new, UploadNodes, DeleteNodes}
 use Rattle.gs_pool.specs.declared.nodes.Node.{Node}
 use Rattle.gs_pool.specs.Pool.{Nodes, in_use, aside_count}
 use Rattle.gs_tree.specs.Tree.{Tree, keys, tree_at}
@@ -41,9 +41,7 @@ use Rattle.gs_tree_store.specs.declared.books.Seat.TheVariants.{Idle, Writing}
 use Rattle.gs_tree_store.specs.Books.{graphs_of, books_setting, dataset_of, totals_of, upload_tree, IsSound, HasLedger, HasLedgerAt, IsReady}
 use Rattle.gs_tree_store.specs.Writes.{HasUpload, EndsOneVersion, Puts, Removes}
 use Rattle.gs_tree_store.specs.Verdicts.{HasCounts}
-use Rattle.gs_event.specs.Steps.{UploadNodes, DeleteNodes}
-use Rattle.gs_tree_store.specs.Actions.{TakesNodes}
-use Rattle.gs_tree_store.specs.Actions.{Acts, IsReadyAny}
+use Rattle.gs_tree_store.specs.Actions.{TakesNodes, Acts, IsReadyAny}
 use Rattle.gs_tree_store.proofs.AlikeLemmas.{SameNow, acts_alike}
 use Rattle.gs_tree_store.proofs.CommitLemmas.{roots_same}
 use Rattle.gs_tree_store.proofs.VerdictLemmas.{size_of_version, IsStored, IsNotStored}
@@ -106,7 +104,7 @@ refused_takes New r g e n = refl
 commit_takes : (k : UploadKind) (r : ℕ) (g : Graph) (status : ℕ) (name : Option (List ℕ)) (m n : ℕ) → n ≡ m → TakesNodes (phase.Writing k r g) Commit (Status status name) m n
 commit_takes (Put t) r g status name m n same = same
 commit_takes (Post t) r g status name m n same = tt
-commit_takes New r g status name m n same = tt
+commit_takes New r g status name m n same = same
 
 -- a commit that finds no number left: nothing changes
 pub commit_refused : (b : Books) (s : ℕ) (k : UploadKind) (r : ℕ) (v : GraphVersion) (o : ℕ) → FitsWrite (totals_of b) (asked_by b k r v) (Refused LastNumber) → IsReady b s (Writing k r v o) → Acts b b s (Writing k r v o) (Writing k r v o) Commit (Refused LastNumber)
