@@ -96,7 +96,8 @@ def read_text(language, text, target, request):
 
 class Nodes:
     """What is known of the nodes and records in use: how many at least and at most, and, where each commit so far gave a graph a
-    tree of its own, the commits that made and ended each that no graph and no open seat has. Of other commits only bounds are known."""
+    tree of its own, the commits that made and ended each that no graph and no open upload or patch has. Of other commits only bounds are
+    known."""
 
     def __init__(self):
         self.low = self.high = 0
@@ -206,7 +207,7 @@ class Store:
         self.fed.pop(seat, None)
 
     def write(self, target, graph):
-        """The graph that a write leaves; its record is not used where the default graph is empty then."""
+        """The graph that a write leaves; its record is not used where this is the default graph and has no triple then."""
         self.births[target] = self.commit
         self.graphs[target] = graph
         if not self.has_record(target):

@@ -56,7 +56,7 @@ triples_in m = size_of m.unnamed + sum_by (λ e. size_of e.1) (map.entries m.nam
 abbrev pub names_in : Dataset → ℕ
 names_in m = map.len m.named
 
--- 1 for a graph that has a triple
+-- 1 for a graph that has a triple, and else 0
 abbrev pub some_of : Graph → ℕ
 some_of g = if nat_eq (size_of g) 0 then 0 else 1
 

@@ -1,4 +1,4 @@
--- Nodes and records in use, and waste: what a store keeps beyond its current graphs and its open uploads.
+-- Nodes and records in use, and waste: what a store keeps beyond its current graphs and its open uploads and patches.
 use Rattle.std.specs.Prelude.{ℕ, ◌+◌, Bool, false, ◌&&◌, nat_le, nat_lt, if◌then◌else◌, List, length, Option, Some, None}
 use Rattle.std.specs.List.{sum_by, list_any}
 use Rattle.gs_model.specs.Graphs.{size_of}
@@ -6,8 +6,8 @@ use Rattle.gs_event.specs.Datasets.{kept_in}
 use Rattle.gs_event.specs.Phases.{Phase, Idle, Writing, Patching, Reading}
 use Rattle.gs_event.specs.Views.{View, SeatView}
 
--- The lifetime of a node or a record that no current graph and no open seat has: the versions v with birth ≤ v < death need
--- it, and no other does. Its death is the number of the commit that took it out, 0 where no version reached it.
+-- The lifetime of a node or a record of no current graph and no open upload or patch: just the versions v with birth ≤ v < death need it.
+-- Its death is the number of the commit that took it out, 0 where no version reached it.
 pub record Lifetime : Type 0 where
   pub birth : ℕ
   pub death : ℕ
@@ -29,8 +29,7 @@ held_at (Reading left) = 0
 abbrev pub held_in : List SeatView → ℕ
 held_in seats = sum_by (λ p. held_at p) seats
 
--- a node for each triple of a current graph or an open upload, the records of the current graphs and of open seats, and the
--- waste
+-- a node for each triple of a current graph or an open upload, the records of current graphs, open uploads and patches, and the waste
 abbrev pub nodes_in : Shown → ℕ
 nodes_in s = kept_in s.view.totals.dataset + held_in s.view.seats + length s.waste
 

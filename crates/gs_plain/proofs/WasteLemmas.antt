@@ -14,7 +14,7 @@ use Rattle.gs_event.specs.declared.answers.Answer.TheVariants.{Status, Cancelled
 use Rattle.gs_event.specs.Waste.{Lifetime, Shown}
 use Rattle.gs_event.specs.Phases.{Idle, Writing, Patching, Reading}
 use Rattle.gs_event.specs.Views.{Totals, SeatView}
-use Rattle.gs_event.specs.Steps.{Joins, JoinsBoth, WastesUpload, WastesCommit, WastesOperations, WastesPatch, WastesDelete, WastesCancel, Wastes}
+use Rattle.gs_event.specs.Steps.{Joins, JoinsBoth, UploadNodes, UpdateNodes, DeleteNodes, WastesNodes, UploadRecords, UpdateRecords, DeleteRecords, WastesRecords, WastesIf, Wastes}
 
 none_joined : (Has : Lifetime → Type 0) (most : ℕ) (old new : List Lifetime) → old ≡ [] → new ≡ [] → Joins Has most old new
 none_joined Has most old new before after = record {
@@ -31,50 +31,64 @@ none_both last unreached ended old new before after = record {
   replaced = none_joined _ _ [] new refl after;
 }
 
-none_uploaded : (v : Totals) (k : UploadKind) (g : Graph) (done : Bool) (old new : List Lifetime) → old ≡ [] → new ≡ [] → WastesUpload v k g done old new
-none_uploaded v (Put t) g true old new before after = none_both _ _ _ old new before after
-none_uploaded v (Put t) g false old new before after = none_joined _ _ old new before after
-none_uploaded v (Post t) g true old new before after = none_both _ _ _ old new before after
-none_uploaded v (Post t) g false old new before after = none_joined _ _ old new before after
-none_uploaded v New g true old new before after = none_both _ _ _ old new before after
-none_uploaded v New g false old new before after = none_joined _ _ old new before after
+none_upload_nodes : (v : Totals) (k : UploadKind) (g : Graph) (done : Bool) (old new : List Lifetime) → old ≡ [] → new ≡ [] → UploadNodes v k g done old new
+none_upload_nodes v (Put t) g true old new before after = none_joined _ _ old new before after
+none_upload_nodes v (Put t) g false old new before after = none_joined _ _ old new before after
+none_upload_nodes v (Post t) g true old new before after = none_both _ _ _ old new before after
+none_upload_nodes v (Post t) g false old new before after = none_joined _ _ old new before after
+none_upload_nodes v New g true old new before after = none_both _ _ _ old new before after
+none_upload_nodes v New g false old new before after = none_joined _ _ old new before after
 
-none_committed : (v : Totals) (p : Option SeatView) (done : Bool) (old new : List Lifetime) → old ≡ [] → new ≡ [] → WastesCommit v p done old new
-none_committed v (Some (Writing k r g)) done old new before after = none_uploaded v k g done old new before after
-none_committed v (Some Idle) done old new before after = after ∙ sym before
-none_committed v (Some (Patching t r)) done old new before after = after ∙ sym before
-none_committed v (Some (Reading left)) done old new before after = after ∙ sym before
-none_committed v None done old new before after = after ∙ sym before
+none_update_nodes : (v : Totals) (t : Target) (ops : List Op) (done : Bool) (old new : List Lifetime) → old ≡ [] → new ≡ [] → UpdateNodes v t ops done old new
+none_update_nodes v t ops true old new before after = none_joined _ _ old new before after
+none_update_nodes v t ops false old new before after = after ∙ sym before
 
-none_operated : (v : Totals) (t : Target) (ops : List Op) (done : Bool) (old new : List Lifetime) → old ≡ [] → new ≡ [] → WastesOperations v t ops done old new
-none_operated v t ops true old new before after = none_joined _ _ old new before after
-none_operated v t ops false old new before after = none_joined _ _ old new before after
+none_delete_nodes : (v : Totals) (t : Target) (done : Bool) (old new : List Lifetime) → old ≡ [] → new ≡ [] → DeleteNodes v t done old new
+none_delete_nodes v t true old new before after = none_joined _ _ old new before after
+none_delete_nodes v t false old new before after = after ∙ sym before
 
-none_patched : (v : Totals) (p : Option SeatView) (ops : List Op) (done : Bool) (old new : List Lifetime) → old ≡ [] → new ≡ [] → WastesPatch v p ops done old new
-none_patched v (Some (Patching t r)) ops done old new before after = none_operated v t ops done old new before after
-none_patched v (Some Idle) ops done old new before after = after ∙ sym before
-none_patched v (Some (Writing k r g)) ops done old new before after = after ∙ sym before
-none_patched v (Some (Reading left)) ops done old new before after = after ∙ sym before
-none_patched v None ops done old new before after = after ∙ sym before
+none_nodes : (v : Totals) (p : SeatView) (action : Action) (a : Answer) (old new : List Lifetime) → old ≡ [] → new ≡ [] → WastesNodes v p action a old new
+none_nodes v (Writing k r g) Commit (Status s name) old new before after = none_upload_nodes v k g _ old new before after
+none_nodes v (Patching t r) (CommitPatch ops) (Status s name) old new before after = none_update_nodes v t ops.items _ old new before after
+none_nodes v p (Delete t) (Status s name) old new before after = none_delete_nodes v t _ old new before after
+none_nodes v (Writing k r g) Cancel Cancelled old new before after = none_joined _ _ old new before after
+none_nodes v p action a old new before after = after ∙ sym before
 
-none_deleted : (v : Totals) (t : Target) (done : Bool) (old new : List Lifetime) → old ≡ [] → new ≡ [] → WastesDelete v t done old new
-none_deleted v t true old new before after = none_joined _ _ old new before after
-none_deleted v t false old new before after = after ∙ sym before
+none_upload_records : (v : Totals) (k : UploadKind) (g : Graph) (done : Bool) (old new : List Lifetime) → old ≡ [] → new ≡ [] → UploadRecords v k g done old new
+none_upload_records v (Put t) g true old new before after = none_both _ _ _ old new before after
+none_upload_records v (Put t) g false old new before after = none_joined _ _ old new before after
+none_upload_records v (Post t) g true old new before after = none_both _ _ _ old new before after
+none_upload_records v (Post t) g false old new before after = none_joined _ _ old new before after
+none_upload_records v New g true old new before after = none_both _ _ _ old new before after
+none_upload_records v New g false old new before after = none_joined _ _ old new before after
 
-none_cancelled : (p : Option SeatView) (old new : List Lifetime) → old ≡ [] → new ≡ [] → WastesCancel p old new
-none_cancelled (Some (Writing k r g)) old new before after = none_joined _ _ old new before after
-none_cancelled (Some Idle) old new before after = after ∙ sym before
-none_cancelled (Some (Patching t r)) old new before after = none_joined _ _ old new before after
-none_cancelled (Some (Reading left)) old new before after = after ∙ sym before
-none_cancelled None old new before after = after ∙ sym before
+none_update_records : (v : Totals) (t : Target) (ops : List Op) (done : Bool) (old new : List Lifetime) → old ≡ [] → new ≡ [] → UpdateRecords v t ops done old new
+none_update_records v t ops true old new before after = none_both _ _ _ old new before after
+none_update_records v t ops false old new before after = none_joined _ _ old new before after
+
+none_delete_records : (v : Totals) (t : Target) (done : Bool) (old new : List Lifetime) → old ≡ [] → new ≡ [] → DeleteRecords v t done old new
+none_delete_records v t true old new before after = none_joined _ _ old new before after
+none_delete_records v t false old new before after = after ∙ sym before
+
+none_records : (v : Totals) (p : SeatView) (action : Action) (a : Answer) (old new : List Lifetime) → old ≡ [] → new ≡ [] → WastesRecords v p action a old new
+none_records v (Writing k r g) Commit (Status s name) old new before after = none_upload_records v k g _ old new before after
+none_records v (Patching t r) (CommitPatch ops) (Status s name) old new before after = none_update_records v t ops.items _ old new before after
+none_records v p (Delete t) (Status s name) old new before after = none_delete_records v t _ old new before after
+none_records v (Writing k r g) Cancel Cancelled old new before after = none_joined _ _ old new before after
+none_records v (Patching t r) Cancel Cancelled old new before after = none_joined _ _ old new before after
+none_records v p action a old new before after = after ∙ sym before
+
+none_at : (v : Totals) (p : Option SeatView) (action : Action) (a : Answer) (old new : List Lifetime) → old ≡ [] → new ≡ [] → WastesIf v p action a old new
+none_at v None action a old new before after = after ∙ sym before
+none_at v (Some p) action a old new before after = record {
+  between = [];
+  nodes = none_nodes v p action a old [] before refl;
+  records = none_records v p action a [] new refl after;
+}
 
 -- a seat's action
 pub none_wasted : (old : Shown) (s : ℕ) (action : Action) (a : Answer) (new : List Lifetime) → old.waste ≡ [] → new ≡ [] → Wastes old (At s action) a new
-none_wasted old s Commit (Status status name) new before after = none_committed old.view.totals _ _ _ _ before after
-none_wasted old s (CommitPatch ops) (Status status name) new before after = none_patched old.view.totals _ ops.items _ _ _ before after
-none_wasted old s (Delete t) (Status status name) new before after = none_deleted old.view.totals t _ _ _ before after
-none_wasted old s Cancel Cancelled new before after = none_cancelled _ _ _ before after
-none_wasted old s action a new before after = after ∙ sym before
+none_wasted old s action a new before after = none_at old.view.totals _ action a _ _ before after
 
 -- there is nothing to free
 pub none_freed : (old : Shown) (n : ℕ) (new : List Lifetime) → old.waste ≡ [] → new ≡ old.waste → Wastes old (Reclaim n) (Reclaimed 0 false) new

@@ -5,7 +5,7 @@ use Rattle.gs_event.specs.Waste.{Shown}
 use Rattle.gs_plain.specs.declared.stores.PlainStore.TheInside.{Inside}
 use Rattle.gs_plain.specs.Books.{totals_of, seat_shown, seat_pin, will_commit, staged_by, IsKnown, IsCounted}
 
--- a node there is a triple of a current graph or of an upload, and a record is of such a graph or of an open seat: so there is no waste
+-- a node is a triple of a current graph or an open upload, and a record is of such a graph or an open upload or patch: so there is no waste
 abbrev pub shown_of : Inside → Shown
 shown_of a = record {
   view = record { totals = totals_of a.books; seats = map (seat_shown a.books.rows.items) a.seats.items };

@@ -109,8 +109,8 @@ pub const PATCHES: [Row; 25] = [
         "store 4 0 999999999999999999\n0 open patch default\n0 patch\n",
         "refused LastNumber\nrefused WrongPhase\n",
     ),
-    // An Open of a patch takes a record, too. A patch that takes effect uses it, also where it changes nothing, unless the default graph is
-    // empty then.
+    // An Open of a patch takes a record, too. A patch that takes effect uses it, also where it changes nothing, unless its target is the
+    // default graph and that has no triple after it.
     (
         "a patch that is opened takes a record, and a cancel leaves it",
         "0 open patch default\ncounts\n0 cancel\ncounts\nreclaim 9\ncounts\n",

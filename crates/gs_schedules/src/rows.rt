@@ -3,7 +3,7 @@
 /// A worked schedule: its name, its lines and what they print.
 pub type Row = (&'static str, &'static str, &'static str);
 
-pub const ROWS: [Row; 32] = [
+pub const ROWS: [Row; 33] = [
     ("an empty input", "", ""),
     (
         "a missing graph and the default graph",
@@ -146,8 +146,8 @@ pub const ROWS: [Row; 32] = [
         "0 open put <http://e/g>\n0 stage <http://e/s> <http://e/p> \"1\" .\n0 stage <http://e/s> <http://e/p> \"2\" .\n0 stage <http://e/s> <http://e/p> \"3\" .\n0 stage <http://e/s> <http://e/p> \"4\" .\n0 commit\n0 open post <http://e/g>\n0 stage <http://e/s> <http://e/p> \"5\" .\n0 commit\ncounts\nreclaim 1000\ncounts\n",
         "opened 1\nstaged\nstaged\nstaged\nstaged\n201\nopened 2\nstaged\n204\nnodes 10 triples 5\nreclaimed 4 done\nnodes 6 triples 5\n",
     ),
-    // What is counted besides nodes are records of versions of graphs. An Open takes one, and its write uses it, unless the default graph
-    // is empty then.
+    // What is counted besides nodes are records of versions of graphs. An Open takes one. A write that takes effect uses it, unless its
+    // target is the default graph and that has no triple after it.
     (
         "each upload that is opened takes a record, and a cancel leaves it",
         "counts\n0 open put <http://e/g>\ncounts\n0 open put <http://e/g>\n1 open new\ncounts\n2 open post default\ncounts\n0 cancel\n1 cancel\n2 cancel\ncounts\nreclaim 2\nreclaim 2\ncounts\n",
@@ -162,6 +162,13 @@ pub const ROWS: [Row; 32] = [
         "an empty graph with a name has a record, which a read keeps when it is deleted",
         "0 open new\n0 commit\ncounts\n1 pin <http://localhost/graphs/n1-0>\n0 delete <http://localhost/graphs/n1-0>\ncounts\nreclaim 9\n1 piece 1\nreclaim 9\ncounts\n",
         "opened 1\n201 http://localhost/graphs/n1-0\nnodes 1 triples 0\n200\n204\nnodes 1 triples 0\nreclaimed 0 more\nend\nreclaimed 1 done\nnodes 0 triples 0\n",
+    ),
+    // The record of what is read is born by the first commit, at which the read is pinned, and ended by the third. Were it born by the
+    // second, no pin would need it.
+    (
+        "a record is born by the commit of its write, so a read from then on keeps it",
+        "0 open put <http://e/g>\n0 stage <http://e/s> <http://e/p> \"1\" .\n0 commit\n1 pin <http://e/g>\n0 open put <http://e/h>\n0 commit\n0 open put <http://e/g>\n0 commit\nreclaim 9\n1 piece 9\nreclaim 9\ncounts\n",
+        "opened 1\nstaged\n201\n200\nopened 2\n201\nopened 3\n204\nreclaimed 0 more\n<http://e/s> <http://e/p> \"1\" .\nend\nreclaimed 2 done\nnodes 2 triples 0\n",
     ),
     (
         "a reclaim of one frees a node or a record",

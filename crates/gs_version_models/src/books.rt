@@ -54,8 +54,8 @@ impl Books {
         }
     }
 
-    /// A write gives a graph these triples. Its record is of no version where the default graph is empty
-    /// then.
+    /// A write gives a graph these triples. Its record is of no version where this is the default graph and
+    /// has no triple then.
     fn write(&mut self, place: Place, triples: Set, outcome: Outcome) -> Result<Turn, AllocError> {
         self.set_graph(place, Some(triples))?;
         let unused = u64::from(!self.graphs.get(place).has_record());
