@@ -87,8 +87,8 @@ def prove(copies, names, below, running):
     while left or running:
         ready = sorted((it for it in left if done.issuperset(below[it])), key=lambda it: -heights[it])
         idle = [it for it in copies if it not in [copy for _, _, copy in running.values()]]
-        # the last crates stand one upon the other, and processors would be idle beside them
-        few = len(left) <= 2 * len(copies)
+        # where the crates stand one upon the other, processors would be idle beside them
+        few = 2 * len(ready) <= len(idle)
         for name, copy in zip(ready, idle):
             left.remove(name)
             log = tempfile.TemporaryFile("w+")
