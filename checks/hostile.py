@@ -282,6 +282,31 @@ def readers_end(program, rounds, wanted=0.020):
     return holds
 
 
+def ended_names(program, rounds, many=20_000, wanted=0.050):
+    """The longest wait of a POST while the records of so many deleted names are freed at once, since a reader that kept them ends. The
+    names have 1,900 letters each, and differ at their end alone."""
+    names = [f"/graphs/{'n' * 1_900}{number}" for number in range(many)]
+    best = 1e9
+    for _ in range(rounds):
+        with Server(program, "--workers", "4") as server:
+            client = Client(server)
+            client.status(put("/graphs/many", [line(node("s", i), P, node("o", i)) for i in range(200_000)]))
+            for name in names:
+                client.status(put(name, []))
+            reader = stopped_reader(server)
+            for name in names:
+                if client.status(f"DELETE {name} HTTP/1.1\r\nHost: a\r\n\r\n".encode()) != 204:
+                    raise SystemExit("a DELETE is not answered 204")
+            reader.close()
+            longest = posts(client, 0, 8_000)[1]
+            best = min(best, longest)
+            print(f"a reader that kept {many} deleted names ends among POSTs: the longest wait {longest * 1e3:.1f} ms", flush=True)
+    holds = best <= wanted
+    missed = "" if holds else ": MISSED"
+    print(f"  the best of {rounds}: {best * 1e3:.1f} ms (at most {wanted * 1e3:g}){missed}")
+    return holds
+
+
 HEAD = b"HEAD /store?default HTTP/1.1\r\nHost: a\r\n\r\n"
 
 
@@ -555,7 +580,7 @@ def pipelined(program, rounds, warm=70, many=400, wanted=4_000_000):
 
 def main():
     program, rounds = sys.argv[1], int(sys.argv[2]) if len(sys.argv) > 2 else 3
-    rows = (patterns, slow_reader, readers_end, many_clients, dear_texts, empty_puts, small_puts, repeats, full_store, pipelined)
+    rows = (patterns, slow_reader, readers_end, ended_names, many_clients, dear_texts, empty_puts, small_puts, repeats, full_store, pipelined)
     held = [row(program, rounds) for row in rows]
     sys.exit(0 if all(held) else 1)
 
