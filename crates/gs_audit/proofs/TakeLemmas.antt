@@ -20,7 +20,7 @@ use Rattle.gs_event.specs.Operations.{Operation}
 use Rattle.gs_event.specs.Phases.{Writing, operation_of}
 use Rattle.gs_event.specs.Views.{View, Totals, SeatView, Fits, FitsSeat, next_phase, next_if, next_at, next_view, after_asked}
 use Rattle.gs_event.specs.Waste.{Shown}
-use Rattle.gs_event.specs.Steps.{Steps}
+use Rattle.gs_event.specs.Steps.{Steps, WastesIf}
 use Rattle.gs_chronicle.specs.Pages.{PageView}
 use Rattle.gs_chronicle.specs.Replays.{Replays}
 use Rattle.gs_chronicle.proofs.ReplayLemmas.{page_after-replays}
@@ -70,7 +70,7 @@ refused_steps old s (Writing k r g) (Stage ts) is may = record {
   fits = subst (λ (o : Option SeatView). MatchOption o (Refused NoMemory ≡ Refused BadSeat) (λ p. FitsSeat old.view.totals p (Stage ts) (Refused NoMemory))) (sym is) tt;
   view = refused_view old.view s k r g (Stage ts) tt is ∙ sym (next_there old.view s (Writing k r g) (Stage ts) (Refused NoMemory) is);
   pinned = sym (set-get_or old.pinned s None);
-  waste = refl;
+  waste = subst (λ (o : Option SeatView). WastesIf old.view.totals o (Stage ts) (Refused NoMemory) old.waste old.waste) (sym is) (record { between = old.waste; nodes = refl; records = refl });
 }
 refused_steps old s q action is may = absurd may
 
