@@ -1,14 +1,14 @@
 -- What the reclaimer asks.
-use Rattle.std.specs.Prelude.{◌≡◌, ℕ, zero, suc, Bool, true, false, nat_le, ◌-◌, ◌^◌, List, [], ◌∷◌, length}
+use Rattle.std.specs.Prelude.{◌≡◌, ℕ, zero, suc, Bool, true, false, ◌-◌, ◌^◌, List, [], ◌∷◌, length}
 use Rattle.std.specs.List.{All}
 use Rattle.gs_event.specs.declared.events.Event.{Event}
 use Rattle.gs_event.specs.declared.events.Event.TheVariants.{Reclaim}
 use Rattle.gs_event.specs.declared.answers.Answer.{Answer}
 use Rattle.gs_event.specs.declared.answers.Answer.TheVariants.{Reclaimed}
 
--- As many were freed as were asked for, and something is left. Where fewer were, pins need all that is left.
+-- something was freed, and something is left
 abbrev pub has_more : Answer → Bool
-has_more (Reclaimed freed true) = nat_le 4096 freed
+has_more (Reclaimed (suc freed) true) = true
 has_more a = false
 
 -- the door was asked to free at most 4,096 nodes and records, so many times, and answered so, the last answer first

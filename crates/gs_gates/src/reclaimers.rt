@@ -15,13 +15,12 @@ use std::sync::ledger::Ledger;
 use std::thread;
 use std::time::{Clock, Duration, Instant};
 
-/// Whether more is to be freed after this answer: as many were freed as were asked for, and something is
-/// left. Where fewer were, pins need all that is left.
+/// Whether more is to be freed after this answer: something was freed, and something is left.
 fn goes_on(answer: &Answer) -> bool
     ensures { result ≡ goes_on_after answer.now }
 {
     match answer {
-        Answer::Reclaimed(freed, true) => *freed >= RECLAIM_NODES,
+        Answer::Reclaimed(freed, true) => *freed > 0,
         _ => false,
     }
 }
