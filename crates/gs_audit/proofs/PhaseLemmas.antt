@@ -8,7 +8,7 @@ use Rattle.gs_event.specs.declared.events.Action.{Action}
 use Rattle.gs_event.specs.declared.events.Action.TheVariants.{Open, OpenPatch, Stage, Commit, CommitPatch, Delete, Head, Pin, Piece, Cancel}
 use Rattle.gs_event.specs.declared.answers.Answer.{Answer}
 use Rattle.gs_event.specs.declared.answers.Answer.TheVariants.{Opened, Staged, Status, Pinned, Lines, Cancelled, Refused}
-use Rattle.gs_event.specs.Datasets.{lines_at}
+use Rattle.gs_event.specs.Datasets.{lines_in}
 use Rattle.gs_event.specs.Operations.{Operation, status_of}
 use Rattle.gs_event.specs.Phases.{Idle, Writing, Patching, Reading, operation_of}
 use Rattle.gs_event.specs.Views.{Totals, SeatView, FitsSeat, next_phase}
@@ -27,7 +27,7 @@ ends_or_not false x = refl
 idle_phase : (t : Totals) (action : Action) (a : Answer) → open_of (next_phase t Idle action a) ≡ open_after Idle action a
 idle_phase t (Open k) (Opened r) = refl
 idle_phase t (OpenPatch d) (Opened r) = refl
-idle_phase t (Pin d) (Pinned s) = reads_or_not (nat_eq s 200) (lines_at t.dataset d) _
+idle_phase t (Pin c) (Pinned s) = reads_or_not (nat_eq s 200) (lines_in t.dataset c) _
 idle_phase t action a = refl
 
 writing_phase : (t : Totals) (k : UploadKind) (r : ℕ) (g : Graph) (action : Action) (a : Answer) → open_of (next_phase t (Writing k r g) action a) ≡ open_after (Writing k r g) action a
@@ -57,8 +57,8 @@ next_kept t (Reading left) action a fits = reading_phase t left action a fits
 reading_asks : (t : Totals) (left : List (List ℕ)) (action : Action) (a : Answer) → FitsSeat t (Reading left) action a
     → operation_of (Reading left) action a ≡ operation_of {R = List (List ℕ)} Idle action a
 reading_asks t left (Delete d) (Status s name) fits = absurd fits
-reading_asks t left (Head d) (Status s name) fits = absurd fits
-reading_asks t left (Pin d) (Pinned s) fits = absurd fits
+reading_asks t left (Head c) (Status s name) fits = absurd fits
+reading_asks t left (Pin c) (Pinned s) fits = absurd fits
 reading_asks t left action a fits = refl
 
 -- what the abstract store is asked at a seat is what it is asked at the phase that is kept of it
@@ -119,8 +119,8 @@ StatusIs t (Some q) s = s ≡ status_of t.setting t.dataset q
 
 pub status_is : (t : Totals) (p : SeatView) (action : Action) (a : Answer) → FitsSeat t p action a → StatusIs t (operation_of p action a) (status_in a)
 status_is t Idle (Delete d) (Status s name) fits = fits.0
-status_is t Idle (Head d) (Status s name) fits = fits.0
-status_is t Idle (Pin d) (Pinned s) fits = fits
+status_is t Idle (Head c) (Status s name) fits = fits.0
+status_is t Idle (Pin c) (Pinned s) fits = fits
 status_is t (Writing k r g) Commit (Status s name) fits = fits.0
 status_is t (Patching d r) (CommitPatch ops) (Status s name) fits = fits.0
 status_is t p action a fits = tt

@@ -37,7 +37,7 @@ slot_count (Patch t r) = 0
 
 -- a kept phase after an answer
 abbrev pub open_after : SeatView → Action → Answer → SeatView
-open_after p action a = open_of (phase_after (λ t. []) (λ left n. left) p action a)
+open_after p action a = open_of (phase_after (λ c. []) (λ left n. left) p action a)
 
 -- how many triples are staged after an answer, at a slot with this phase, where it was n
 abbrev pub count_after : SeatView → ℕ → Action → Answer → ℕ

@@ -82,12 +82,12 @@ fn after_empty(alloc: Global, action: Action, answer: &Answer) -> (Slot, Option<
             Answer::Status(status, _) => (Slot::Empty, Some((Request::Delete(target), *status))),
             _ => (Slot::Empty, None),
         },
-        Action::Head(target) => match answer {
-            Answer::Status(status, _) => (Slot::Empty, Some((Request::Head(target), *status))),
+        Action::Head(scope) => match answer {
+            Answer::Status(status, _) => (Slot::Empty, Some((Request::Head(scope), *status))),
             _ => (Slot::Empty, None),
         },
-        Action::Pin(target) => match answer {
-            Answer::Pinned(status) => (Slot::Empty, Some((Request::Pin(target), *status))),
+        Action::Pin(scope) => match answer {
+            Answer::Pinned(status) => (Slot::Empty, Some((Request::Pin(scope), *status))),
             _ => (Slot::Empty, None),
         },
         Action::Stage(_)

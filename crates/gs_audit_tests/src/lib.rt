@@ -1,10 +1,12 @@
-//! Tests of a store with its page: worked rows on a page of four entries and six triples, and what a
-//! refused request for memory leaves.
+//! Tests of a store with its page: worked rows on a page of four entries and six triples, the entries of
+//! questions and reads of a graph and of the whole dataset, and what a refused request for memory leaves.
 #![tactic(auto)]
 
 #[cfg(test)]
 mod refusals;
 #[cfg(test)]
 mod rows;
+#[cfg(test)]
+mod scopes;
 #[cfg(test)]
 mod stores;

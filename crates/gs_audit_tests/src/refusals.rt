@@ -2,6 +2,7 @@
 //! answers; `rt try --test --fail-alloc N` refuses the request of that number.
 use crate::stores::{Small, cats, small, triples};
 use gs_core::{Action, Answer, Event, UploadKind};
+use gs_event::Scope;
 use gs_model::Refusal;
 use std::alloc::Global;
 
@@ -44,7 +45,44 @@ fn commit(store: &mut Small) -> Answer {
     store.event(Event::Seat(0, Action::Commit))
 }
 
-/// What is answered otherwise of an upload of five triples, or the page where it is not stored once.
+/// The lines of the whole dataset once the upload was committed.
+const LINES: &[u8] = b"<http://e/s> <http://e/p> _:b1_0 <http://e/cats> .
+<http://e/s> <http://e/p> _:b1_1 <http://e/cats> .
+<http://e/s> <http://e/p> _:b1_2 <http://e/cats> .
+";
+
+/// The lines that the second seat's read gives, asked for a second time where the first was refused.
+fn read(store: &mut Small) -> Answer {
+    let answer = store.event(Event::Seat(1, Action::Piece(9)));
+    if !wants_memory(&answer) {
+        return answer;
+    }
+    drop(answer);
+    store.event(Event::Seat(1, Action::Piece(9)))
+}
+
+/// What is answered otherwise of a question about the whole dataset, and of a read of it, by the second
+/// seat. Neither takes memory until lines are asked for.
+fn wrong_read(store: &mut Small) -> Option<&'static str> {
+    let asked = store.event(Event::Seat(1, Action::Head(Scope::All)));
+    if !matches!(asked, Answer::Status(200, None)) {
+        return Some("the question");
+    }
+    let pinned = store.event(Event::Seat(1, Action::Pin(Scope::All)));
+    if !matches!(pinned, Answer::Pinned(200)) {
+        return Some("the read");
+    }
+    let given = read(store);
+    let is_given = match &given {
+        Answer::Lines(lines, true) => lines.as_slice() == LINES,
+        _ => false,
+    };
+    drop(given);
+    if is_given { None } else { Some("the lines") }
+}
+
+/// What is answered otherwise of an upload of five triples, which are three, and of the dataset then, or
+/// the page where each deciding call is not stored once.
 fn wrong_part(alloc: Global, store: &mut Small) -> Result<Option<&'static str>, Refusal> {
     if !matches!(open(alloc, store)?, Answer::Opened(1)) {
         return Ok(Some("the open"));
@@ -58,8 +96,11 @@ fn wrong_part(alloc: Global, store: &mut Small) -> Result<Option<&'static str>, 
     if !matches!(commit(store), Answer::Status(201, _)) {
         return Ok(Some("the commit"));
     }
+    if let Some(part) = wrong_read(store) {
+        return Ok(Some(part));
+    }
     let page = store.page();
-    let is_stored = page.number() == 0 && page.entries().len() == 1;
+    let is_stored = page.number() == 0 && page.entries().len() == 3;
     Ok(if is_stored { None } else { Some("the page") })
 }
 

@@ -2,6 +2,7 @@
 use crate::stores::{Small, Wide, cats, put, small, triples, wide};
 use gs_chronicle::{Request, Upload};
 use gs_core::{Action, Answer, Event, UploadKind};
+use gs_event::Scope;
 use gs_model::Refusal;
 use gs_term::Target;
 use std::alloc::Global;
@@ -79,7 +80,8 @@ fn status_of(alloc: Global, store: &mut Small, count: u8) -> Result<u16, Refusal
 /// Whether a row leaves its page, in a store that is lent.
 fn is_left(alloc: Global, store: &mut Small, row: &Row) -> Result<bool, Refusal> {
     for _ in 0..row.heads {
-        drop(store.event(Event::Seat(1, Action::Head(Target::Default))));
+        let head = Action::Head(Scope::One(Target::Default));
+        drop(store.event(Event::Seat(1, head)));
     }
     let mut status = 0;
     for count in &row.puts {

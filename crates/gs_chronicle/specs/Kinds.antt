@@ -10,5 +10,5 @@ action_kind_of (Posts t g) = Commit
 action_kind_of (Creates r g) = Commit
 action_kind_of (Patches t ops) = CommitPatch
 action_kind_of (Deletes t) = Delete
-action_kind_of (Looks t) = Head
-action_kind_of (Reads t) = Pin
+action_kind_of (Looks c) = Head
+action_kind_of (Reads c) = Pin

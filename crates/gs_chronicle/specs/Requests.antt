@@ -13,16 +13,16 @@ abbrev pub operation_in : Request → Operation
 operation_in (Upload u) = write_of u.kind u.request (staged_graph u)
 operation_in (Patch t ops) = Patches t ops.items
 operation_in (Delete t) = Deletes t
-operation_in (Head t) = Looks t
-operation_in (Pin t) = Reads t
+operation_in (Head c) = Looks c
+operation_in (Pin c) = Reads c
 
 -- how many triples and patterns the request has, with repeats
 abbrev pub request_size : Request → ℕ
 request_size (Upload u) = length (staged_triples u)
 request_size (Patch t ops) = ops_size ops.items
 request_size (Delete t) = 0
-request_size (Head t) = 0
-request_size (Pin t) = 0
+request_size (Head c) = 0
+request_size (Pin c) = 0
 
 -- the call by which this seat asked for that, and got this status
 abbrev pub call_of : ℕ → Request → ℕ → Decided

@@ -6,7 +6,7 @@ ghost use Rattle.gs_chronicle.specs.Requests.{operation_in, request_size};
 use crate::kinds::ActionKind;
 use crate::operations::ops_size;
 use crate::uploads::Upload;
-use gs_event::Op;
+use gs_event::{Op, Scope};
 use gs_term::Target;
 
 /// What a store was asked by a call that it decided, with all that it brought.
@@ -18,10 +18,10 @@ pub enum Request {
     Patch(Target, Vec<Op>),
     /// A deletion of a graph.
     Delete(Target),
-    /// The question whether there is such a graph.
-    Head(Target),
-    /// The beginning of a read of a graph.
-    Pin(Target),
+    /// The question whether there is such a graph. The whole dataset is always there.
+    Head(Scope),
+    /// The beginning of a read of a graph, or of all of them.
+    Pin(Scope),
 }
 
 impl Request {

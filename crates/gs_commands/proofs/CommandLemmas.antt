@@ -7,8 +7,8 @@ use Rattle.gs_model.specs.Texts.{split_first, number_of}
 use Rattle.gs_model.proofs.TextLemmas.{number_of-numeral, split_first-other, other-numeral}
 use Rattle.gs_event.specs.declared.events.Action.{Action}
 use Rattle.gs_event.specs.declared.events.Action.TheVariants.{Open, OpenPatch, Stage, Commit, CommitPatch, Delete, Head, Pin, Piece, Cancel}
-use Rattle.gs_commands.specs.Found.{Finds, SaysNumber}
-use Rattle.gs_commands.specs.Commands.{SaysAfter, SaysAction, SaysStart}
+use Rattle.gs_commands.specs.Found.{Finds, SaysNumber, SaysAfter}
+use Rattle.gs_commands.specs.Commands.{SaysAction, SaysStart}
 
 -- what is found is said, and where nothing is found nothing is said
 pub found_says : {X : Type 0} (Says : X → List ℕ → Type 0) (text : List ℕ) (found : Option X) → Finds Says text found → (x : X) → found ≡ Some x → Says x text
@@ -42,8 +42,8 @@ action_some (Stage ts) x says h = let e = says.parts in cc
 action_some Commit x says h = cc
 action_some (CommitPatch ops) x says h = says
 action_some (Delete t) x says h = let e = says.parts in cc
-action_some (Head t) x says h = let e = says.parts in cc
-action_some (Pin t) x says h = let e = says.parts in cc
+action_some (Head c) x says h = let e = says.parts in cc
+action_some (Pin c) x says h = let e = says.parts in cc
 action_some (Piece n) x says h = let e = says.parts in cc
 action_some Cancel x says h = cc
 

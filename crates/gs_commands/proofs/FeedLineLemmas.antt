@@ -9,8 +9,8 @@ use Rattle.gs_event.specs.declared.events.Action.TheVariants.{Open, OpenPatch, S
 use Rattle.gs_event.specs.declared.events.Event.TheVariants.{Seat as At}
 use Rattle.gs_upload.specs.declared.languages.Language.{Language}
 use Rattle.gs_upload.specs.declared.languages.Language.TheVariants.{NTriples, Turtle}
-use Rattle.gs_commands.specs.Found.{SaysNumber}
-use Rattle.gs_commands.specs.Commands.{SaysAfter, SaysText, SaysFeed, SaysAction, SaysEvent, feed_words}
+use Rattle.gs_commands.specs.Found.{SaysNumber, SaysAfter}
+use Rattle.gs_commands.specs.Commands.{SaysText, SaysFeed, SaysAction, SaysEvent, feed_words}
 use Rattle.gs_commands.proofs.WordLemmas.{first_differs}
 use Rattle.gs_commands.proofs.CommandLemmas.{split_first-some, number_cut, seat_cut}
 
@@ -79,8 +79,8 @@ no_action (Stage ts) x z e says = first_differs 102 115 z (codes "tage " ++ says
 no_action Commit x z e says = first_differs 102 99 z (codes "ommit") refl (sym e ∙ says)
 no_action (CommitPatch ops) x z e says = says
 no_action (Delete t) x z e says = first_differs 102 100 z (codes "elete " ++ says.rest) refl (sym e ∙ says.parts)
-no_action (Head t) x z e says = first_differs 102 104 z (codes "ead " ++ says.rest) refl (sym e ∙ says.parts)
-no_action (Pin t) x z e says = first_differs 102 112 z (codes "in " ++ says.rest) refl (sym e ∙ says.parts)
+no_action (Head c) x z e says = first_differs 102 104 z (codes "ead " ++ says.rest) refl (sym e ∙ says.parts)
+no_action (Pin c) x z e says = first_differs 102 112 z (codes "in " ++ says.rest) refl (sym e ∙ says.parts)
 no_action (Piece n) x z e says = first_differs 102 112 z (codes "iece " ++ says.rest) refl (sym e ∙ says.parts)
 no_action Cancel x z e says = first_differs 102 99 z (codes "ancel") refl (sym e ∙ says)
 

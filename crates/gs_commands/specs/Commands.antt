@@ -10,6 +10,8 @@ use Rattle.gs_term.specs.declared.names.Target.{Target}
 use Rattle.gs_term.specs.declared.names.Target.TheVariants.{Default, Named}
 use Rattle.gs_event.specs.declared.events.UploadKind.{UploadKind}
 use Rattle.gs_event.specs.declared.events.UploadKind.TheVariants.{Put, Post, New}
+use Rattle.gs_event.specs.declared.events.Scope.{Scope}
+use Rattle.gs_event.specs.declared.events.Scope.TheVariants.{One, All}
 use Rattle.gs_event.specs.declared.events.Action.{Action}
 use Rattle.gs_event.specs.declared.events.Action.TheVariants.{Open, OpenPatch, Stage, Commit, CommitPatch, Delete, Head, Pin, Piece, Cancel}
 use Rattle.gs_event.specs.declared.events.Event.{Event}
@@ -18,7 +20,7 @@ use Rattle.gs_commands.specs.declared.commands.Command.{Command}
 use Rattle.gs_commands.specs.declared.commands.Command.TheVariants.{Nothing, Begin, Ask, Count, Feed, Patch, Cut}
 use Rattle.gs_upload.specs.declared.languages.Language.{Language}
 use Rattle.gs_upload.specs.declared.languages.Language.TheVariants.{NTriples, Turtle}
-use Rattle.gs_commands.specs.Found.{SaysNumber, last_u16, last_u32, last_u64}
+use Rattle.gs_commands.specs.Found.{SaysNumber, SaysAfter, last_u16, last_u32, last_u64}
 
 -- a character at the front of the first line, or as the only line where there is none
 abbrev pub before_first : ℕ → List (List ℕ) → List (List ℕ)
@@ -29,12 +31,6 @@ before_first c (x ∷ xs) = (c ∷ x) ∷ xs
 abbrev pub lines_in : List ℕ → List (List ℕ)
 lines_in [] = []
 lines_in (c ∷ cs) = if c == line_feed then [] ∷ lines_in cs else before_first c (lines_in cs)
-
--- a word with a space after it, and then what the rest says
-pub record SaysAfter (word : List ℕ) (SaysRest : List ℕ → Type 0) (x : List ℕ) : Type 0 where
-  pub rest : List ℕ
-  pub parts : x ≡ word ++ rest
-  pub says : SaysRest rest
 
 -- the name of a graph, as it is
 abbrev pub SaysName : List ℕ → List ℕ → Type 0
@@ -48,6 +44,11 @@ bracketed x = less_than ∷ x ++ greater_than ∷ []
 abbrev pub SaysTarget : Target → List ℕ → Type 0
 SaysTarget Default x = x ≡ codes "default"
 SaysTarget (Named name) x = (x ≡ bracketed name) × IsName name
+
+-- one graph, or `all`, which is no target
+abbrev pub SaysScope : Scope → List ℕ → Type 0
+SaysScope (One t) x = SaysTarget t x
+SaysScope All x = x ≡ codes "all"
 
 -- what an upload is opened for
 abbrev pub SaysKind : UploadKind → List ℕ → Type 0
@@ -77,8 +78,8 @@ SaysAction (Stage ts) x = SaysAfter (codes "stage ") (SaysTriples ts.items) x
 SaysAction Commit x = x ≡ codes "commit"
 SaysAction (CommitPatch ops) x = ⊥
 SaysAction (Delete t) x = SaysAfter (codes "delete ") (SaysTarget t) x
-SaysAction (Head t) x = SaysAfter (codes "head ") (SaysTarget t) x
-SaysAction (Pin t) x = SaysAfter (codes "pin ") (SaysTarget t) x
+SaysAction (Head c) x = SaysAfter (codes "head ") (SaysScope c) x
+SaysAction (Pin c) x = SaysAfter (codes "pin ") (SaysScope c) x
 SaysAction (Piece n) x = SaysAfter (codes "piece ") (SaysNumber last_u32 n) x
 SaysAction Cancel x = x ≡ codes "cancel"
 

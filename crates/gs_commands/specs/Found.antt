@@ -1,10 +1,16 @@
 -- What a reader of one text finds.
-use Rattle.std.specs.Prelude.{◌≡◌, ◌≤◌, List, ℕ, Option, Some, Result, IfOk, MatchOption}
+use Rattle.std.specs.Prelude.{◌≡◌, ◌++◌, ◌≤◌, List, ℕ, Option, Some, Result, IfOk, MatchOption}
 use Rattle.gs_model.specs.Terms.{Term, IsTerm, numeral}
 
 -- the value that the text says, and none only where the text says no value
 abbrev pub Finds : {X : Type 0} → (X → List ℕ → Type 0) → List ℕ → Option X → Type 0
 Finds Says text found = MatchOption found ((x : _) → ¬ (Says x text)) (λ x. Says x text)
+
+-- a word with a space after it, and then what the rest says
+pub record SaysAfter (word : List ℕ) (SaysRest : List ℕ → Type 0) (x : List ℕ) : Type 0 where
+  pub rest : List ℕ
+  pub parts : x ≡ word ++ rest
+  pub says : SaysRest rest
 
 -- the greatest number of 16 bits
 abbrev pub last_u16 : ℕ

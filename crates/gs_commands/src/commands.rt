@@ -1,13 +1,13 @@
 //! What a line of a schedule says.
 ghost use Rattle.std.specs.Prelude.{◌≡◌, ◌++◌, ◌∷◌, [], List, ℕ, IfOk, MatchOption};
 ghost use Rattle.gs_commands.specs.Found.{Finds};
-ghost use Rattle.gs_commands.specs.Commands.{SaysName, SaysTarget, SaysKind, SaysTriple, SaysAction, SaysText, SaysFeed, SaysNothingAt, SaysStart, SaysCommand, FindsStage, FindsSeatEvent, bracketed, feed_words, is_skipped as is_skipped_line};
+ghost use Rattle.gs_commands.specs.Commands.{SaysName, SaysTarget, SaysScope, SaysKind, SaysTriple, SaysAction, SaysText, SaysFeed, SaysNothingAt, SaysStart, SaysCommand, FindsStage, FindsSeatEvent, bracketed, feed_words, is_skipped as is_skipped_line};
 ghost use Rattle.gs_upload.specs.declared.languages.Language.{Language as ALanguage};
 
 use crate::lines::read_line;
 use crate::patches::read_patch;
 use crate::words::{after, number, split};
-use gs_event::{Action, Event, UploadKind};
+use gs_event::{Action, Event, Scope, UploadKind};
 use gs_model::{LAST_NUMBER, MAX_SEATS, memory_apart};
 use gs_term::{GraphName, Target, Triple};
 use gs_upload::Language;
@@ -69,6 +69,16 @@ fn read_target(alloc: Global, text: &[u8]) -> Result<Option<Target>, AllocError>
         Some(name) => Ok(Some(Target::Named(name))),
         None => Ok(None),
     }
+}
+
+/// A target, or the word for all graphs, which is none.
+fn read_scope(alloc: Global, text: &[u8]) -> Result<Option<Scope>, AllocError>
+    ensures { IfOk result (Finds SaysScope text.now) }
+{
+    if text == b"all".as_slice() {
+        return Ok(Some(Scope::All));
+    }
+    Ok(read_target(alloc, text)?.map(Scope::One))
 }
 
 fn read_kind(alloc: Global, text: &[u8]) -> Result<Option<UploadKind>, AllocError>
@@ -134,11 +144,11 @@ fn read_action(alloc: Global, text: &[u8]) -> Result<Option<Action>, AllocError>
     if let Some(target) = after(text, b"delete ") {
         return Ok(read_target(alloc, target)?.map(Action::Delete));
     }
-    if let Some(target) = after(text, b"head ") {
-        return Ok(read_target(alloc, target)?.map(Action::Head));
+    if let Some(scope) = after(text, b"head ") {
+        return Ok(read_scope(alloc, scope)?.map(Action::Head));
     }
-    if let Some(target) = after(text, b"pin ") {
-        return Ok(read_target(alloc, target)?.map(Action::Pin));
+    if let Some(scope) = after(text, b"pin ") {
+        return Ok(read_scope(alloc, scope)?.map(Action::Pin));
     }
     if let Some(count) = after(text, b"piece ") {
         return Ok(number(count, 4_294_967_295).map(|n| Action::Piece(n as u32)));

@@ -8,7 +8,7 @@ mod limits;
 mod stores;
 
 pub use bases::is_base;
-pub use gs_event::{Action, Answer, Event, Op, UploadKind};
+pub use gs_event::{Action, Answer, Event, Op, Scope, UploadKind};
 pub use gs_model::Refusal;
 pub use gs_plain::PlainStore;
 pub use gs_term::{Part, Pattern, VariableName};

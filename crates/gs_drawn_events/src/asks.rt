@@ -10,6 +10,13 @@ pub enum Place {
     Made(u64, u64),
 }
 
+/// What a question or a read is about: a graph, or all of them.
+#[derive(Clone, Copy, Drop)]
+pub enum Scope {
+    One(Place),
+    All,
+}
+
 /// What an upload will do.
 #[derive(Clone, Copy, Drop)]
 pub enum Kind {
@@ -36,8 +43,8 @@ pub enum Ask {
     Commit,
     Patch(Vec<Edit>),
     Delete(Place),
-    Head(Place),
-    Pin(Place),
+    Head(Scope),
+    Pin(Scope),
     Piece(u32),
     Cancel,
 }

@@ -1,5 +1,5 @@
 //! What is asked, drawn.
-use crate::asks::{Ask, Edit, Kind, Place};
+use crate::asks::{Ask, Edit, Kind, Place, Scope};
 use crate::molds::{Mold, Slot, VARIABLES};
 use crate::terms::{FIRST_PREDICATE, FIRST_SUBJECT, LITERAL, TRIPLES};
 use gs_drawn_requests::Draws;
@@ -112,8 +112,8 @@ pub fn drawn_any(alloc: Global, draws: &mut Draws, made: &[Place]) -> Result<Ask
         0 => Ok(Ask::Open(drawn_kind(draws, made))),
         1 => Ok(Ask::OpenPatch(place)),
         2 => Ok(Ask::Delete(place)),
-        3 => Ok(Ask::Head(place)),
-        4 => Ok(Ask::Pin(place)),
+        3 => Ok(Ask::Head(Scope::One(place))),
+        4 => Ok(Ask::Pin(Scope::One(place))),
         _ => drawn_inner(alloc, draws),
     }
 }
@@ -161,7 +161,24 @@ pub fn drawn_for_idle(draws: &mut Draws, made: &[Place]) -> Ask {
         0..40 => Ask::Open(drawn_kind(draws, made)),
         40..62 => Ask::OpenPatch(place),
         62..70 => Ask::Delete(place),
-        70..74 => Ask::Head(place),
-        _ => Ask::Pin(place),
+        70..74 => Ask::Head(Scope::One(place)),
+        _ => Ask::Pin(Scope::One(place)),
     }
+}
+
+/// The same, but one in three questions and reads is about all graphs.
+pub fn drawn_wider(draws: &mut Draws, ask: Ask) -> Ask {
+    match ask {
+        Ask::Head(scope) => Ask::Head(drawn_scope(draws, scope)),
+        Ask::Pin(scope) => Ask::Pin(drawn_scope(draws, scope)),
+        other => other,
+    }
+}
+
+/// This, or at one chance of three all graphs.
+fn drawn_scope(draws: &mut Draws, scope: Scope) -> Scope {
+    if draws.is_one_in(3) {
+        return Scope::All;
+    }
+    scope
 }

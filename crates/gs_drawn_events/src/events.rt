@@ -1,8 +1,8 @@
 //! Events of what is asked.
-use crate::asks::{Ask, Edit, Kind, Place};
+use crate::asks::{Ask, Edit, Kind, Place, Scope};
 use crate::molds::{Mold, Slot, VARIABLES};
 use crate::terms::{term, triple};
-use gs_event::{Action, Event, Op, UploadKind};
+use gs_event::{self, Action, Event, Op, UploadKind};
 use gs_model::Refusal;
 use gs_term::{GraphName, Part, Pattern, Target, Triple, VariableName};
 use std::alloc::{AllocError, Global};
@@ -18,19 +18,28 @@ pub fn made_name(alloc: Global, request: u64, number: u64) -> Result<String, All
     format!(in alloc; "{BASE}/graphs/n{request}-{number}")
 }
 
-fn named(alloc: Global, text: &str) -> Result<Target, Refusal> {
-    Ok(Target::Named(GraphName::new(alloc, text)?))
+/// The name of a graph, none of the default graph. That of `A` is the beginning of that of `B`.
+pub fn name_of(alloc: Global, place: Place) -> Result<Option<String>, AllocError> {
+    match place {
+        Place::Default => Ok(None),
+        Place::A => Ok(Some(String::from_str(alloc, "http://e/a")?)),
+        Place::B => Ok(Some(String::from_str(alloc, "http://e/a/b")?)),
+        Place::Made(request, number) => Ok(Some(made_name(alloc, request, number)?)),
+    }
 }
 
 /// The target of a graph.
 pub fn target(alloc: Global, place: Place) -> Result<Target, Refusal> {
-    match place {
-        Place::Default => Ok(Target::Default),
-        Place::A => named(alloc, "http://e/a"),
-        Place::B => named(alloc, "http://e/b"),
-        Place::Made(request, number) => {
-            named(alloc, made_name(alloc, request, number)?.as_str())
-        }
+    match name_of(alloc, place)? {
+        None => Ok(Target::Default),
+        Some(name) => Ok(Target::Named(GraphName::new(alloc, name.as_str())?)),
+    }
+}
+
+fn scope(alloc: Global, scope: Scope) -> Result<gs_event::Scope, Refusal> {
+    match scope {
+        Scope::One(place) => Ok(gs_event::Scope::One(target(alloc, place)?)),
+        Scope::All => Ok(gs_event::Scope::All),
     }
 }
 
@@ -103,8 +112,8 @@ fn action(alloc: Global, ask: &Ask) -> Result<Action, Refusal> {
         Ask::Commit => Ok(Action::Commit),
         Ask::Patch(edits) => Ok(Action::CommitPatch(operations(alloc, edits.as_slice())?)),
         Ask::Delete(place) => Ok(Action::Delete(target(alloc, *place)?)),
-        Ask::Head(place) => Ok(Action::Head(target(alloc, *place)?)),
-        Ask::Pin(place) => Ok(Action::Pin(target(alloc, *place)?)),
+        Ask::Head(about) => Ok(Action::Head(scope(alloc, *about)?)),
+        Ask::Pin(about) => Ok(Action::Pin(scope(alloc, *about)?)),
         Ask::Piece(count) => Ok(Action::Piece(*count)),
         Ask::Cancel => Ok(Action::Cancel),
     }

@@ -7,11 +7,11 @@ mod events;
 mod molds;
 mod terms;
 
-pub use asks::{Ask, Edit, Kind, Place, SORT_NAMES, SORTS, sort_of};
+pub use asks::{Ask, Edit, Kind, Place, SORT_NAMES, SORTS, Scope, sort_of};
 pub use drawn::{
     drawn_any, drawn_count, drawn_for_idle, drawn_for_patch, drawn_for_read, drawn_for_upload,
-    drawn_inner, drawn_list, drawn_place,
+    drawn_inner, drawn_list, drawn_place, drawn_wider,
 };
-pub use events::{BASE, event, made_name, target};
+pub use events::{BASE, event, made_name, name_of, target};
 pub use molds::{Mold, Slot, VARIABLES};
-pub use terms::{TRIPLES, made, push_line, terms_of};
+pub use terms::{TRIPLES, made, push_line, push_quad, terms_of};

@@ -72,11 +72,24 @@ pub fn triple(alloc: Global, number: usize) -> Result<Triple, Refusal> {
     )
 }
 
-/// Appends the line of this number.
-pub fn push_line(lines: &mut Vec<u8>, number: usize) -> Result<(), AllocError> {
+/// Appends the terms of this number, with a space after each.
+fn push_terms(lines: &mut Vec<u8>, number: usize) -> Result<(), AllocError> {
     for part in terms_of(number) {
         lines.extend_from_slice(text(part).as_bytes())?;
         lines.extend_from_slice(b" ")?;
     }
+    Ok(())
+}
+
+/// Appends the line of this number.
+pub fn push_line(lines: &mut Vec<u8>, number: usize) -> Result<(), AllocError> {
+    push_terms(lines, number)?;
     lines.extend_from_slice(b".\n")
+}
+
+/// Appends the line of this number in a graph with this name, which stands in angle brackets.
+pub fn push_quad(lines: &mut Vec<u8>, number: usize, name: &str) -> Result<(), AllocError> {
+    push_terms(lines, number)?;
+    lines.extend_from_slice(name.as_bytes())?;
+    lines.extend_from_slice(b" .\n")
 }

@@ -14,6 +14,16 @@ const TARGETS: [&str; GRAPHS] = [
     "/store?graph=http%3A%2F%2Fe%2Fc%23d",
 ];
 
+/// The target of all graphs together, and what may be accepted of it.
+const STORE: &str = "/store";
+
+const QUADS_ACCEPTS: [&str; 4] = [
+    "",
+    "Accept: application/n-quads\r\n",
+    "Accept: text/turtle, APPLICATION/*;q=0.1\r\n",
+    "Accept: application/n-triples;q=0, */*\r\n",
+];
+
 const LINES_TYPES: [&str; 2] = [
     "Content-Type: application/n-triples\r\n",
     "content-type: Application/N-Triples; charset=\"utf-8\"\r\n",
@@ -39,11 +49,37 @@ type Row = (
 
 const ALL_METHODS: &str = "GET, HEAD, PUT, POST, DELETE, PATCH";
 
-const DENIALS: [Row; 17] = [
+const STORE_METHODS: &str = "GET, HEAD, POST";
+
+const DENIALS: [Row; 20] = [
     ("GET", "/nope", "", 404, "", false),
     ("DELETE", "/graphs/", "", 404, "", false),
-    ("GET", "/store", "", 405, "POST", false),
-    ("PATCH", "/store", UPDATE_TYPE, 405, "POST", false),
+    ("DELETE", "/store", "", 405, STORE_METHODS, false),
+    ("PATCH", "/store", UPDATE_TYPE, 405, STORE_METHODS, false),
+    (
+        "GET",
+        "/store",
+        "Accept: application/n-triples, text/turtle\r\n",
+        406,
+        "",
+        false,
+    ),
+    (
+        "HEAD",
+        "/store",
+        "Accept: application/n-quads;q=0, */*\r\n",
+        406,
+        "",
+        false,
+    ),
+    (
+        "GET",
+        "/graphs/a",
+        "Accept: application/n-quads\r\n",
+        406,
+        "",
+        false,
+    ),
     ("OPTIONS", "/store?default", "", 405, ALL_METHODS, false),
     (
         "PUT",
@@ -125,6 +161,7 @@ fn bare_draft(alloc: Global, draws: &mut Draws, method: Method, deed: Deed) -> D
     Draft {
         method,
         graph,
+        is_of_all: false,
         deed,
         is_turtle: false,
         word: word_of(method),
@@ -210,6 +247,21 @@ fn quiet_draft(
     Ok(draft)
 }
 
+/// A GET or a HEAD of all graphs.
+fn whole_draft(
+    alloc: Global,
+    draws: &mut Draws,
+    method: Method,
+    deed: Deed,
+) -> Result<Draft, AllocError> {
+    let mut draft = quiet_draft(alloc, draws, method, deed)?;
+    draft.is_of_all = true;
+    draft.target = STORE;
+    draft.accept = draws.pick(&QUADS_ACCEPTS);
+    draft.is_turtle = false;
+    Ok(draft)
+}
+
 fn denied_draft(alloc: Global, draws: &mut Draws) -> Result<Draft, AllocError> {
     let number = draws.below(DENIALS.len());
     let (word, target, fields, status, allow, closes) = DENIALS
@@ -229,7 +281,7 @@ fn denied_draft(alloc: Global, draws: &mut Draws) -> Result<Draft, AllocError> {
 }
 
 fn drawn_draft(alloc: Global, draws: &mut Draws) -> Result<Draft, AllocError> {
-    match draws.below(40) {
+    match draws.below(45) {
         0..7 => upload_draft(alloc, draws, Method::Put, false),
         7..15 => upload_draft(alloc, draws, Method::Post, false),
         15..24 => quiet_draft(alloc, draws, Method::Get, Deed::Read),
@@ -239,6 +291,8 @@ fn drawn_draft(alloc: Global, draws: &mut Draws) -> Result<Draft, AllocError> {
         35 => upload_draft(alloc, draws, Method::Put, true),
         36 => upload_draft(alloc, draws, Method::Post, true),
         37 => faulty_patch_draft(alloc, draws),
+        38..42 => whole_draft(alloc, draws, Method::Get, Deed::Read),
+        42 => whole_draft(alloc, draws, Method::Head, Deed::Look),
         _ => denied_draft(alloc, draws),
     }
 }
@@ -259,6 +313,7 @@ pub fn drawn_request(alloc: Global, draws: &mut Draws, start: usize) -> Result<D
     let request = Request {
         method: draft.method,
         graph: draft.graph,
+        is_of_all: draft.is_of_all,
         deed: draft.deed,
         is_turtle: draft.is_turtle,
         closes: draft.closes || ends_denied,

@@ -18,6 +18,7 @@ enum Framing {
 pub struct Draft {
     pub method: Method,
     pub graph: usize,
+    pub is_of_all: bool,
     pub deed: Deed,
     pub is_turtle: bool,
     pub word: &'static str,

@@ -51,6 +51,8 @@ pub enum Deed {
 pub struct Request {
     pub method: Method,
     pub graph: usize,
+    /// It reads or looks at all graphs, in place of the one.
+    pub is_of_all: bool,
     pub deed: Deed,
     /// Turtle is asked for.
     pub is_turtle: bool,

@@ -8,7 +8,8 @@ mod plays;
 mod scripts;
 mod totals;
 
-pub use effects::{Counts, Effect};
+pub use effects::{Counts, Effect, Effects};
 pub use findings::{Kind, Moment, Stop};
-pub use plays::{Play, Subject, effect};
+pub use judging::Judge;
+pub use plays::{Play, Subject, effect, on_both};
 pub use totals::Totals;

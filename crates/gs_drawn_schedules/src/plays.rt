@@ -12,6 +12,9 @@ use std::alloc::Global;
 /// The events of a schedule, the Reclaims after them and what ends it aside.
 const EVENTS: usize = 300;
 
+/// From this number on schedules ask and read all graphs too.
+const FIRST_WIDE: u64 = 201;
+
 /// How many nodes and records the Reclaim after each event may free.
 const FEW: u64 = 3;
 
@@ -36,7 +39,7 @@ pub fn effect<S: Subject>(store: &mut S, event: &Event) -> Effect {
 }
 
 /// Both stores take an event.
-fn effects<S: Subject, P: Subject>(store: &mut S, plain: &mut P, event: &Event) -> Effects {
+pub fn on_both<S: Subject, P: Subject>(store: &mut S, plain: &mut P, event: &Event) -> Effects {
     Effects {
         judged: effect(store, event),
         plain: effect(plain, event),
@@ -52,13 +55,13 @@ pub struct Play {
 }
 
 impl Play {
-    /// The schedule with this number. Every second one is exact.
+    /// The schedule with this number. Every second one is exact, and those from `FIRST_WIDE` on are wide.
     pub fn new(alloc: Global, number: u64, limits: Limits, lie: Lie) -> Play {
         let is_exact = number % 2 == 0;
         Play {
             alloc,
             judge: Judge::new(alloc, is_exact, limits, lie),
-            script: Script::new(alloc, number, is_exact),
+            script: Script::new(alloc, number, is_exact, FIRST_WIDE <= number),
         }
     }
 
@@ -72,7 +75,7 @@ impl Play {
         totals: &mut Totals,
     ) -> Result<(), Stop> {
         let event = event(self.alloc, seat, ask)?;
-        let effects = effects(store, plain, &event);
+        let effects = on_both(store, plain, &event);
         self.judge.take(seat, ask, &effects, totals)
     }
 
@@ -85,7 +88,7 @@ impl Play {
     ) -> Result<(), Stop> {
         let (seat, ask) = self.script.next(&self.judge.model)?;
         self.ask(store, plain, seat, &ask, totals)?;
-        let effects = effects(store, plain, &Event::Reclaim(FEW));
+        let effects = on_both(store, plain, &Event::Reclaim(FEW));
         self.judge.reclaim(FEW, &effects, totals)
     }
 
@@ -99,7 +102,7 @@ impl Play {
         for seat in 0..seats() {
             self.ask(store, plain, seat, &Ask::Cancel, totals)?;
         }
-        let effects = effects(store, plain, &Event::Reclaim(u64::MAX));
+        let effects = on_both(store, plain, &Event::Reclaim(u64::MAX));
         self.judge.finish(&effects, totals)
     }
 

@@ -1,7 +1,7 @@
 //! The events of a schedule, drawn one by one by what the seats of the model do.
 use gs_drawn_events::{
-    Ask, Kind, drawn_any, drawn_count, drawn_for_idle, drawn_for_patch, drawn_for_read,
-    drawn_for_upload, drawn_inner, drawn_list, drawn_place,
+    Ask, Kind, Scope, drawn_any, drawn_count, drawn_for_idle, drawn_for_patch, drawn_for_read,
+    drawn_for_upload, drawn_inner, drawn_list, drawn_place, drawn_wider,
 };
 use gs_drawn_requests::Draws;
 use gs_version_models::{Model, Phase, SEATS};
@@ -12,6 +12,9 @@ pub fn seats() -> u16 {
     u16::try_from(SEATS).unwrap_or(1)
 }
 
+/// What is added to the number of a schedule for the seed of its second draws.
+const SECOND: u64 = 1_000_000;
+
 /// What is drawn.
 #[derive(Drop)]
 pub struct Script {
@@ -20,6 +23,9 @@ pub struct Script {
     /// Only uploads that replace a graph and Deletes write, and an upload is opened, staged and committed
     /// without an event of another seat between.
     is_exact: bool,
+    /// Where some questions and reads are about all graphs, which are. These draws are others, so that all
+    /// else is drawn as without them.
+    wider: Option<Draws>,
     /// What comes next of an upload, the last first, at this seat.
     queue: Vec<Ask>,
     queue_seat: u16,
@@ -27,11 +33,17 @@ pub struct Script {
 
 impl Script {
     /// The events of the schedule with this number.
-    pub fn new(alloc: Global, number: u64, is_exact: bool) -> Script {
+    pub fn new(alloc: Global, number: u64, is_exact: bool, is_wide: bool) -> Script {
+        let wider = if is_wide {
+            Some(Draws::new(number.saturating_add(SECOND)))
+        } else {
+            None
+        };
         Script {
             alloc,
             draws: Draws::new(number),
             is_exact,
+            wider,
             queue: Vec::new(alloc),
             queue_seat: 0,
         }
@@ -48,7 +60,15 @@ impl Script {
         } else {
             self.drawn_ask(model, seat)?
         };
-        Ok((seat, ask))
+        Ok((seat, self.widened(ask)))
+    }
+
+    /// The same, or about all graphs.
+    fn widened(&mut self, ask: Ask) -> Ask {
+        match &mut self.wider {
+            None => ask,
+            Some(draws) => drawn_wider(draws, ask),
+        }
     }
 
     /// A seat, at one chance of fifty one that is not there.
@@ -110,9 +130,9 @@ impl Script {
                 Ok(Ask::Open(Kind::Put(place)))
             }
             38..50 => Ok(Ask::Delete(place)),
-            50..54 => Ok(Ask::Head(place)),
+            50..54 => Ok(Ask::Head(Scope::One(place))),
             54..60 => drawn_inner(self.alloc, &mut self.draws),
-            _ => Ok(Ask::Pin(place)),
+            _ => Ok(Ask::Pin(Scope::One(place))),
         }
     }
 

@@ -1,5 +1,5 @@
 //! What was done and seen over all schedules.
-use gs_drawn_events::{Ask, SORT_NAMES, SORTS, sort_of};
+use gs_drawn_events::{Ask, SORT_NAMES, SORTS, Scope, sort_of};
 use gs_version_models::Said;
 use std::io::{self, Write};
 
@@ -17,7 +17,11 @@ pub struct Totals {
     /// Writes and looks that ended in 507, and in 404.
     full: u64,
     missing: u64,
-    /// Pieces of a read whose graph was another by then.
+    /// Questions and reads of all graphs, and pieces of such reads.
+    heads_of_all: u64,
+    pins_of_all: u64,
+    pieces_of_all: u64,
+    /// Pieces of a read whose graph was another by then, or one of all.
     stale_pieces: u64,
     reclaims: u64,
     freed: u64,
@@ -38,6 +42,9 @@ impl Totals {
             refused: [0; SORTS],
             full: 0,
             missing: 0,
+            heads_of_all: 0,
+            pins_of_all: 0,
+            pieces_of_all: 0,
             stale_pieces: 0,
             reclaims: 0,
             freed: 0,
@@ -64,10 +71,21 @@ impl Totals {
         match said {
             Said::Status(507) => add(&mut self.full, 1),
             Said::Status(404) => add(&mut self.missing, 1),
+            Said::Quads(_, _) => add(&mut self.pieces_of_all, 1),
             _ => {}
         }
-        if is_stale && matches!(said, Said::Lines(_, _)) {
+        self.note_of_all(ask, said);
+        if is_stale && matches!(said, Said::Lines(_, _) | Said::Quads(_, _)) {
             add(&mut self.stale_pieces, 1);
+        }
+    }
+
+    /// The same, where it may be about all graphs.
+    fn note_of_all(&mut self, ask: &Ask, said: &Said) {
+        match (ask, said) {
+            (Ask::Head(Scope::All), Said::Status(_)) => add(&mut self.heads_of_all, 1),
+            (Ask::Pin(Scope::All), Said::Pinned(_)) => add(&mut self.pins_of_all, 1),
+            _ => {}
         }
     }
 
@@ -98,6 +116,11 @@ impl Totals {
         write!(out, "refused:")?;
         Totals::print_counts(&self.refused, out)?;
         writeln!(out, "of these 507 {}, 404 {}", self.full, self.missing)?;
+        writeln!(
+            out,
+            "of all graphs: Head {} Pin {} Piece {}",
+            self.heads_of_all, self.pins_of_all, self.pieces_of_all,
+        )?;
         writeln!(
             out,
             "pieces of a read whose graph was another by then: {}",

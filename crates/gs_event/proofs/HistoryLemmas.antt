@@ -5,7 +5,7 @@ use Rattle.std.proofs.Common.{add-zero, zero-add, ◌≤◌}
 use Rattle.std.proofs.lemmas.Bool.{ne_eqb, eq-eqb}
 use Rattle.std.proofs.lemmas.List.{drop-drop}
 use Rattle.std.proofs.lemmas.List.Sums.{sum_by-cons}
-use Rattle.gs_term.specs.declared.names.Target.{Target}
+use Rattle.gs_event.specs.declared.events.Scope.{Scope}
 use Rattle.gs_model.specs.declared.refusals.Refusal.{Refusal}
 use Rattle.gs_model.specs.declared.refusals.Refusal.TheVariants.{BadSeat}
 use Rattle.gs_event.specs.declared.events.Action.{Action}
@@ -14,7 +14,7 @@ use Rattle.gs_event.specs.declared.events.Event.{Event}
 use Rattle.gs_event.specs.declared.events.Event.TheVariants.{Seat as At, Reclaim}
 use Rattle.gs_event.specs.declared.answers.Answer.{Answer}
 use Rattle.gs_event.specs.declared.answers.Answer.TheVariants.{Opened, Staged, Status, Pinned, Lines, Cancelled, Reclaimed, Refused}
-use Rattle.gs_event.specs.Datasets.{lines_at}
+use Rattle.gs_event.specs.Datasets.{lines_in}
 use Rattle.gs_event.specs.Operations.{Setting, Operation, after_all}
 use Rattle.gs_event.specs.Phases.{Phase, Idle, Writing, Patching, Reading, phase_after, operation_of}
 use Rattle.gs_event.specs.Views.{SeatView, Fits, FitsSeat, answers_opened, is_written, after_asked, next_view, next_at, next_if}
@@ -22,7 +22,7 @@ use Rattle.gs_event.specs.Histories.{History, OpenRead, phase_of, phase_by, poin
 
 -- a seat's phase by its history, with one more answer
 abbrev pub later : History → Phase OpenRead → Action → Answer → Phase OpenRead
-later before = phase_after (λ t. record { target = t; before = before; given = 0 }) (λ r n. record { target = r.target; before = r.before; given = r.given + n })
+later before = phase_after (λ c. record { scope = c; before = before; given = 0 }) (λ r n. record { scope = r.scope; before = r.before; given = r.given + n })
 
 same_operation : (w : Setting) (p : Phase OpenRead) (action : Action) (a : Answer) → operation_of (seat_view w p) action a ≡ operation_of p action a
 same_operation w Idle (Delete t) (Status s name) = refl
@@ -32,16 +32,16 @@ same_operation w (Writing t r g) Commit (Status s name) = refl
 same_operation w (Patching t r) (CommitPatch ops) (Status s name) = refl
 same_operation w p action a = refl
 
-pinned_view : (w : Setting) (b : Bool) (h : History) (t : Target) → seat_view w (cond b (Reading (record { target = t; before = h; given = 0 })) Idle) ≡ cond b (Reading (lines_at (dataset_after w h) t)) Idle
-pinned_view w true h t = refl
-pinned_view w false h t = refl
+pinned_view : (w : Setting) (b : Bool) (h : History) (c : Scope) → seat_view w (cond b (Reading (record { scope = c; before = h; given = 0 })) Idle) ≡ cond b (Reading (lines_in (dataset_after w h) c)) Idle
+pinned_view w true h c = refl
+pinned_view w false h c = refl
 
-given_view : (w : Setting) (b : Bool) (r : OpenRead) (n : ℕ) → seat_view w (cond b Idle (Reading (record { target = r.target; before = r.before; given = r.given + n }))) ≡ cond b Idle (Reading (drop n (lines_left w r)))
+given_view : (w : Setting) (b : Bool) (r : OpenRead) (n : ℕ) → seat_view w (cond b Idle (Reading (record { scope = r.scope; before = r.before; given = r.given + n }))) ≡ cond b Idle (Reading (drop n (lines_left w r)))
 given_view w true r n = refl
 given_view w false r n = ap Reading (sym (drop-drop n r.given _))
 
 -- the table of phases says the same of a history and of what is seen
-pub same_phase : (w : Setting) (h : History) (p : Phase OpenRead) (action : Action) (a : Answer) → seat_view w (later h p action a) ≡ phase_after (lines_at (dataset_after w h)) (λ left n. drop n left) (seat_view w p) action a
+pub same_phase : (w : Setting) (h : History) (p : Phase OpenRead) (action : Action) (a : Answer) → seat_view w (later h p action a) ≡ phase_after (lines_in (dataset_after w h)) (λ left n. drop n left) (seat_view w p) action a
 same_phase w h Idle (Open k) (Opened r) = refl
 same_phase w h Idle (OpenPatch t) (Opened r) = refl
 same_phase w h Idle (Pin t) (Pinned s) = pinned_view w (nat_eq s 200) h t
@@ -92,12 +92,12 @@ other_seat w h s k action a ne =
     let apart : nat_eq s k ≡ false = ne_eqb s k (λ e. ne (sym e)) in
     rw apart
 
-own_seat : (w : Setting) (h : History) (s : ℕ) (action : Action) (a : Answer) → seat_view w (phase_by h s (phase_of h s) (At s action) a) ≡ phase_after (lines_at (dataset_after w h)) (λ left n. drop n left) (seat_view w (phase_of h s)) action a
+own_seat : (w : Setting) (h : History) (s : ℕ) (action : Action) (a : Answer) → seat_view w (phase_by h s (phase_of h s) (At s action) a) ≡ phase_after (lines_in (dataset_after w h)) (λ left n. drop n left) (seat_view w (phase_of h s)) action a
 own_seat w h s action a =
     let same : nat_eq s s ≡ true = eq-eqb s s refl in
     rw same (same_phase w h (phase_of h s) action a)
 
-pub refused_phase : {R : Type 0} (f : Target → R) (g : R → ℕ → R) (p : Phase R) (action : Action) (r : Refusal) → phase_after f g p action (Refused r) ≡ p
+pub refused_phase : {R : Type 0} (f : Scope → R) (g : R → ℕ → R) (p : Phase R) (action : Action) (r : Refusal) → phase_after f g p action (Refused r) ≡ p
 refused_phase f g Idle (Open k) r = refl
 refused_phase f g Idle (OpenPatch t) r = refl
 refused_phase f g Idle (Pin t) r = refl
@@ -128,9 +128,9 @@ next_seen start h s action a p is =
     after_cons start.setting (operation_of (phase_of h s) action a) (points_of h) ∙ ap (after_asked start.setting (dataset_after start.setting h)) (sym (same_operation start.setting (phase_of h s) action a) ∙ ap (λ q. operation_of q action a) is) in
     let opened = counted answers_opened start.request h (At s action) a in
     let written = counted is_written start.commit h (At s action) a in
-    let own : seat_view start.setting (phase_by h s (phase_of h s) (At s action) a) ≡ phase_after (lines_at (dataset_after start.setting h)) (λ left n. drop n left) p action a =
-    own_seat start.setting h s action a ∙ ap (λ q. phase_after (lines_at (dataset_after start.setting h)) (λ left n. drop n left) q action a) is in
-    let seats = changed_at (λ k. seat_view start.setting (phase_of h k)) (λ k. seat_view start.setting (phase_by h k (phase_of h k) (At s action) a)) 0 start.seats s (phase_after (lines_at (dataset_after start.setting h)) (λ left n. drop n left) p action a) (rw (zero-add s) own) (λ k ne. other_seat start.setting h s k action a (λ e. ne (e ∙ sym (zero-add s)))) in
+    let own : seat_view start.setting (phase_by h s (phase_of h s) (At s action) a) ≡ phase_after (lines_in (dataset_after start.setting h)) (λ left n. drop n left) p action a =
+    own_seat start.setting h s action a ∙ ap (λ q. phase_after (lines_in (dataset_after start.setting h)) (λ left n. drop n left) q action a) is in
+    let seats = changed_at (λ k. seat_view start.setting (phase_of h k)) (λ k. seat_view start.setting (phase_by h k (phase_of h k) (At s action) a)) 0 start.seats s (phase_after (lines_in (dataset_after start.setting h)) (λ left n. drop n left) p action a) (rw (zero-add s) own) (λ k ne. other_seat start.setting h s k action a (λ e. ne (e ∙ sym (zero-add s)))) in
     λ i. record { totals = record { setting = start.setting; dataset = asked i; request = opened i; commit = written i }; seats = seats i }
 
 -- a refusal changes nothing that is seen

@@ -21,7 +21,7 @@ use Rattle.gs_event.specs.declared.answers.Answer.{Answer}
 use Rattle.gs_event.specs.declared.answers.Answer.TheVariants.{Opened, Staged, Status, Pinned, Lines, Cancelled, Reclaimed, Refused}
 use Rattle.gs_event.specs.declared.updates.Op.{Op}
 use Rattle.gs_event.specs.Updates.{updated, patched}
-use Rattle.gs_event.specs.Datasets.{Dataset, graph_at, is_there, lines_if, lines_at, with_graph, without_graph, kept_in, records_at, unused_for}
+use Rattle.gs_event.specs.Datasets.{Dataset, graph_at, is_there, lines_if, lines_at, lines_in, with_graph, without_graph, kept_in, records_at, unused_for}
 use Rattle.gs_event.specs.Names.{new_name}
 use Rattle.gs_event.specs.Operations.{Setting, is_within, united, stored, stored_status, after, status_of, is_success}
 use Rattle.gs_event.specs.Phases.{Idle, Writing, Patching, Reading, write_of}
@@ -153,7 +153,7 @@ taken_at v Idle (Open k) (Opened r) old new fits w = omega (arith, empty_has_non
 taken_at v Idle (OpenPatch t) (Opened r) old new fits w = omega (arith, ap length w.nodes, ap length w.records)
 taken_at v Idle (Delete t) (Status s name) old new fits w = deleted v t s (is_there v.dataset t) (is_success s) old w.between new refl refl fits.0 w.nodes w.records
 taken_at v Idle (Head t) (Status s name) old new fits w = unchanged (kept_in v.dataset + 0) old w.between new w.nodes w.records
-taken_at v Idle (Pin t) (Pinned s) old new fits w = omega (arith, pin_stages (nat_eq s 200) (lines_at v.dataset t), ap length w.nodes, ap length w.records)
+taken_at v Idle (Pin t) (Pinned s) old new fits w = omega (arith, pin_stages (nat_eq s 200) (lines_in v.dataset t), ap length w.nodes, ap length w.records)
 taken_at v Idle Commit (Status s name) old new fits w = absurd fits
 taken_at v Idle (CommitPatch ops) (Status s name) old new fits w = absurd fits
 taken_at v Idle Cancel Cancelled old new fits w = absurd fits

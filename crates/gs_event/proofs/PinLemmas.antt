@@ -3,7 +3,7 @@ use Rattle.std.proofs.Common.{◌≡◌, ◌≢◌, ℕ, zero, suc, ◌+◌, Boo
 use Rattle.std.specs.List.{slice_get, slice_set, range_with_len}
 use Rattle.std.proofs.lemmas.Bool.{ne_eqb, eq-eqb}
 use Rattle.std.proofs.lemmas.List.{set-get_or}
-use Rattle.gs_term.specs.declared.names.Target.{Target}
+use Rattle.gs_event.specs.declared.events.Scope.{Scope}
 use Rattle.gs_model.specs.declared.refusals.Refusal.{Refusal}
 use Rattle.gs_model.specs.declared.refusals.Refusal.TheVariants.{BadSeat}
 use Rattle.gs_event.specs.declared.events.Action.{Action}
@@ -21,12 +21,12 @@ use Rattle.gs_event.specs.Continuing.{PinsGoOn}
 use Rattle.gs_event.proofs.HistoryLemmas.{later, refused_phase, same_after, changed_at, at_place}
 
 -- a read begins where the test says so
-pin_begins : (start : Start) (h : History) (t : Target) (b : Bool) → pin_of_read start (cond b (Reading (record { target = t; before = h; given = 0 })) Idle) ≡ cond b (Some (commit_after start h)) None
-pin_begins start h t true = refl
-pin_begins start h t false = refl
+pin_begins : (start : Start) (h : History) (c : Scope) (b : Bool) → pin_of_read start (cond b (Reading (record { scope = c; before = h; given = 0 })) Idle) ≡ cond b (Some (commit_after start h)) None
+pin_begins start h c true = refl
+pin_begins start h c false = refl
 
 -- a read ends where the test says so, and else goes on with its pin
-pin_ends : (start : Start) (r : OpenRead) (n : ℕ) (b : Bool) → pin_of_read start (cond b Idle (Reading (record { target = r.target; before = r.before; given = r.given + n }))) ≡ cond b None (Some (commit_after start r.before))
+pin_ends : (start : Start) (r : OpenRead) (n : ℕ) (b : Bool) → pin_of_read start (cond b Idle (Reading (record { scope = r.scope; before = r.before; given = r.given + n }))) ≡ cond b None (Some (commit_after start r.before))
 pin_ends start r n true = refl
 pin_ends start r n false = refl
 

@@ -1,11 +1,13 @@
--- Datasets (RDF 1.1 Concepts, section 4).
-use Rattle.std.specs.Prelude.{ℕ, ◌+◌, Bool, List, [], length, nat_eq, if◌then◌else◌, Option, Some, None, is_some}
-use Rattle.std.specs.List.{sum_by}
+-- Datasets (RDF 1.1 Concepts, section 4), and their lines (N-Quads, 25 February 2014, section 2).
+use Rattle.std.specs.Prelude.{ℕ, ◌+◌, Bool, true, List, [], ◌++◌, length, map as each, nat_eq, if◌then◌else◌, Option, Some, None, is_some}
+use Rattle.std.specs.List.{sum_by, flat_map}
 use Rattle.std.specs.FinMap as map
-use Rattle.gs_model.specs.Graphs.{Graph, empty_graph, lines_of, size_of}
-use Rattle.gs_term.specs.Names.{name_cmp}
+use Rattle.gs_model.specs.Graphs.{Graph, empty_graph, triples_of, lines_of, size_of}
+use Rattle.gs_term.specs.Names.{name_cmp, quad_line_of}
 use Rattle.gs_term.specs.declared.names.Target.{Target}
 use Rattle.gs_term.specs.declared.names.Target.TheVariants.{Default, Named}
+use Rattle.gs_event.specs.declared.events.Scope.{Scope}
+use Rattle.gs_event.specs.declared.events.Scope.TheVariants.{One, All}
 
 -- a default graph, which is never missing, and a graph for each of finitely many names
 pub record Dataset : Type 0 where
@@ -43,6 +45,24 @@ lines_if (Some g) = lines_of g
 -- the lines of a target's graph, none where it is missing
 abbrev pub lines_at : Dataset → Target → List (List ℕ)
 lines_at m t = lines_if (graph_at m t)
+
+-- the lines of a graph with a name, which stands in each of them
+abbrev pub named_lines : List ℕ × Graph → List (List ℕ)
+named_lines e = each (quad_line_of e.0) (triples_of e.1)
+
+-- the lines of the default graph, and then those of the graphs with names, in the order of these
+abbrev pub quads_of : Dataset → List (List ℕ)
+quads_of m = lines_of m.unnamed ++ flat_map named_lines (map.entries m.named)
+
+-- whether a scope can be read: a graph that is not missing, or the whole dataset, which is always there
+abbrev pub has : Dataset → Scope → Bool
+has m (One t) = is_there m t
+has m All = true
+
+-- the lines of a scope: of a graph, or of the whole dataset
+abbrev pub lines_in : Dataset → Scope → List (List ℕ)
+lines_in m (One t) = lines_at m t
+lines_in m All = quads_of m
 
 -- how many triples a target's graph has, one for each of its lines: 0 where it is missing
 abbrev pub size_at : Dataset → Target → ℕ

@@ -1,12 +1,12 @@
 -- Histories of events with their answers, and what they mean.
 use Rattle.std.specs.Prelude.{◌≡◌, ℕ, ◌+◌, List, [], ◌∷◌, map, length, nat_eq, cond, drop, Option, Some, None, reverse, ◌++◌}
 use Rattle.std.specs.List.{zip, range_with_len, count_by, cons_option}
-use Rattle.gs_term.specs.declared.names.Target.{Target}
+use Rattle.gs_event.specs.declared.events.Scope.{Scope}
 use Rattle.gs_event.specs.declared.events.Event.{Event}
 use Rattle.gs_event.specs.declared.events.Event.TheVariants.{Seat as At, Reclaim}
 use Rattle.gs_event.specs.declared.answers.Answer.{Answer}
 use Rattle.gs_event.specs.declared.limits.Limits.{Limits}
-use Rattle.gs_event.specs.Datasets.{Dataset, lines_at}
+use Rattle.gs_event.specs.Datasets.{Dataset, lines_in}
 use Rattle.gs_event.specs.Operations.{Setting, Operation, after_all}
 use Rattle.gs_event.specs.Phases.{Phase, Idle, Writing, Patching, Reading, phase_after, operation_of}
 use Rattle.gs_event.specs.Views.{View, SeatView, Fits, answers_opened, is_written}
@@ -16,9 +16,9 @@ use Rattle.gs_event.specs.Waste.{Shown}
 abbrev pub History : Type 0
 History = List (Event × Answer)
 
--- an open read: its target, the history before its pin, and how many of its lines were given since
+-- an open read: its scope, the history before its pin, and how many of its lines were given since
 pub record OpenRead : Type 0 where
-  pub target : Target
+  pub scope : Scope
   pub before : History
   pub given : ℕ
 
@@ -27,7 +27,7 @@ abbrev pub phase_by : History → ℕ → Phase OpenRead → Event → Answer �
 phase_by before seat p (Reclaim n) a = p
 phase_by before seat p (At s action) a =
     cond (nat_eq s seat)
-    (phase_after (λ t. record { target = t; before = before; given = 0 }) (λ r n. record { target = r.target; before = r.before; given = r.given + n }) p action a)
+    (phase_after (λ c. record { scope = c; before = before; given = 0 }) (λ r n. record { scope = r.scope; before = r.before; given = r.given + n }) p action a)
     p
 
 -- the phase of a seat, from its events and their answers alone
@@ -49,9 +49,9 @@ points_of (x ∷ before) = cons_option (operation_by before x.0 x.1) (points_of 
 abbrev pub dataset_after : Setting → History → Dataset
 dataset_after w h = after_all w (points_of h)
 
--- the lines left of a read: its graph's at the pin, without those that were given
+-- the lines left of a read: its graph's or dataset's at the pin, without those that were given
 abbrev pub lines_left : Setting → OpenRead → List (List ℕ)
-lines_left w r = drop r.given (lines_at (dataset_after w r.before) r.target)
+lines_left w r = drop r.given (lines_in (dataset_after w r.before) r.scope)
 
 -- a phase as it is seen
 abbrev pub seat_view : Setting → Phase OpenRead → SeatView

@@ -5,10 +5,11 @@ use Rattle.gs_model.specs.Graphs.{Graph, with_triples, triples_of}
 use Rattle.gs_event.specs.declared.limits.Limits.{Limits}
 use Rattle.gs_event.specs.declared.updates.Op.{Op}
 use Rattle.gs_event.specs.Updates.{patched}
-use Rattle.gs_event.specs.Datasets.{Dataset, empty_dataset, graph_at, is_there, with_graph, without_graph, triples_in, names_in}
+use Rattle.gs_event.specs.Datasets.{Dataset, empty_dataset, graph_at, is_there, has, with_graph, without_graph, triples_in, names_in}
 use Rattle.gs_event.specs.Names.{new_name}
 use Rattle.gs_term.specs.declared.names.Target.{Target}
 use Rattle.gs_term.specs.declared.names.Target.TheVariants.{Named}
+use Rattle.gs_event.specs.declared.events.Scope.{Scope}
 
 -- the base of the names that the store makes up, and how much it may hold
 pub record Setting : Type 0 where
@@ -31,8 +32,8 @@ pub data Operation : Type 0 where
   Creates : (request : ℕ) (graph : Graph) → Operation
   Patches : (target : Target) (operations : List Op) → Operation
   Deletes : (target : Target) → Operation
-  Looks : (target : Target) → Operation
-  Reads : (target : Target) → Operation
+  Looks : (scope : Scope) → Operation
+  Reads : (scope : Scope) → Operation
 
 -- the dataset in which the target's graph is g, where that is within the limits
 abbrev pub stored : Setting → Dataset → Target → Graph → Dataset
@@ -49,8 +50,8 @@ after w m (Posts t g) = stored w m t (united (graph_at m t) g)
 after w m (Creates r g) = stored w m (Named (new_name w.base m r)) g
 after w m (Patches t ops) = if is_there m t then stored w m t (patched (graph_at m t) ops) else m
 after w m (Deletes t) = if is_there m t then without_graph m t else m
-after w m (Looks t) = m
-after w m (Reads t) = m
+after w m (Looks c) = m
+after w m (Reads c) = m
 
 -- its HTTP status
 abbrev pub status_of : Setting → Dataset → Operation → ℕ
@@ -59,8 +60,8 @@ status_of w m (Posts t g) = stored_status w m t (united (graph_at m t) g)
 status_of w m (Creates r g) = stored_status w m (Named (new_name w.base m r)) g
 status_of w m (Patches t ops) = if is_there m t then stored_status w m t (patched (graph_at m t) ops) else 404
 status_of w m (Deletes t) = if is_there m t then 204 else 404
-status_of w m (Looks t) = if is_there m t then 200 else 404
-status_of w m (Reads t) = if is_there m t then 200 else 404
+status_of w m (Looks c) = if has m c then 200 else 404
+status_of w m (Reads c) = if has m c then 200 else 404
 
 -- the name of the graph that the store made up a name for
 abbrev pub location_of : Setting → Dataset → Operation → Option (List ℕ)
@@ -80,8 +81,8 @@ wants_memory m (Posts t g) = true
 wants_memory m (Creates r g) = true
 wants_memory m (Patches t ops) = is_there m t
 wants_memory m (Deletes t) = false
-wants_memory m (Looks t) = false
-wants_memory m (Reads t) = false
+wants_memory m (Looks c) = false
+wants_memory m (Reads c) = false
 
 -- the dataset after all of these, the newest first
 abbrev pub after_all : Setting → List Operation → Dataset

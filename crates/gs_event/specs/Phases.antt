@@ -4,6 +4,7 @@ use Rattle.gs_model.specs.Graphs.{Graph, empty_graph, with_triples}
 use Rattle.gs_term.specs.declared.names.Target.{Target}
 use Rattle.gs_event.specs.declared.events.UploadKind.{UploadKind}
 use Rattle.gs_event.specs.declared.events.UploadKind.TheVariants.{Put, Post, New}
+use Rattle.gs_event.specs.declared.events.Scope.{Scope}
 use Rattle.gs_event.specs.declared.events.Action.{Action}
 use Rattle.gs_event.specs.declared.events.Action.TheVariants.{Open, OpenPatch, Stage, Commit, CommitPatch, Delete, Head, Pin, Piece, Cancel}
 use Rattle.gs_event.specs.declared.answers.Answer.{Answer}
@@ -23,8 +24,8 @@ abbrev pub allows : {R : Type 0} → Phase R → Action → Bool
 allows Idle (Open k) = true
 allows Idle (OpenPatch t) = true
 allows Idle (Delete t) = true
-allows Idle (Head t) = true
-allows Idle (Pin t) = true
+allows Idle (Head c) = true
+allows Idle (Pin c) = true
 allows (Writing k r g) (Stage ts) = true
 allows (Writing k r g) Commit = true
 allows (Writing k r g) Cancel = true
@@ -34,12 +35,12 @@ allows (Reading left) (Piece n) = nat_lt 0 n
 allows (Reading left) Cancel = true
 allows p action = false
 
--- the phase after an answer: `pinned t` is what a read of t has left when it begins,
+-- the phase after an answer: `pinned c` is what a read of c has left when it begins,
 -- `given left n` what is left after n lines more
-abbrev pub phase_after : {R : Type 0} → (Target → R) → (R → ℕ → R) → Phase R → Action → Answer → Phase R
+abbrev pub phase_after : {R : Type 0} → (Scope → R) → (R → ℕ → R) → Phase R → Action → Answer → Phase R
 phase_after pinned given Idle (Open k) (Opened r) = Writing k r empty_graph
 phase_after pinned given Idle (OpenPatch t) (Opened r) = Patching t r
-phase_after pinned given Idle (Pin t) (Pinned s) = cond (nat_eq s 200) (Reading (pinned t)) Idle
+phase_after pinned given Idle (Pin c) (Pinned s) = cond (nat_eq s 200) (Reading (pinned c)) Idle
 phase_after pinned given (Writing k r g) (Stage ts) Staged = Writing k r (with_triples g ts.items)
 phase_after pinned given (Writing k r g) Commit (Status s name) = Idle
 phase_after pinned given (Writing k r g) Cancel Cancelled = Idle
@@ -58,8 +59,8 @@ write_of New r g = Creates r g
 -- what the abstract store is asked at this phase, by an action that was answered so
 abbrev pub operation_of : {R : Type 0} → Phase R → Action → Answer → Option Operation
 operation_of Idle (Delete t) (Status s name) = Some (Deletes t)
-operation_of Idle (Head t) (Status s name) = Some (Looks t)
-operation_of Idle (Pin t) (Pinned s) = Some (Reads t)
+operation_of Idle (Head c) (Status s name) = Some (Looks c)
+operation_of Idle (Pin c) (Pinned s) = Some (Reads c)
 operation_of (Writing k r g) Commit (Status s name) = Some (write_of k r g)
 operation_of (Patching t r) (CommitPatch ops) (Status s name) = Some (Patches t ops.items)
 operation_of p action a = None

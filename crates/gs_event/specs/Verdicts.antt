@@ -5,6 +5,7 @@ use Rattle.gs_model.specs.Limits.{last_number}
 use Rattle.gs_model.specs.Graphs.{Graph, size_of}
 use Rattle.gs_term.specs.declared.names.Target.{Target}
 use Rattle.gs_term.specs.declared.names.Target.TheVariants.{Default, Named}
+use Rattle.gs_event.specs.declared.events.Scope.TheVariants.{One, All}
 use Rattle.gs_event.specs.declared.verdicts.Holdings.{Holdings}
 use Rattle.gs_event.specs.declared.verdicts.Place.{Place}
 use Rattle.gs_event.specs.declared.verdicts.Change.{Change}
@@ -59,8 +60,10 @@ operation_target w m (Posts t g) = t
 operation_target w m (Creates r g) = Named (new_name w.base m r)
 operation_target w m (Patches t ops) = t
 operation_target w m (Deletes t) = t
-operation_target w m (Looks t) = t
-operation_target w m (Reads t) = t
+operation_target w m (Looks (One t)) = t
+operation_target w m (Looks All) = Default
+operation_target w m (Reads (One t)) = t
+operation_target w m (Reads All) = Default
 
 -- what an operation does to its target, where it is a write
 abbrev pub change_of : Dataset → Operation → Option Change
@@ -69,8 +72,8 @@ change_of m (Posts t g) = Some (Stores (size_of (united (graph_at m t) g)) true)
 change_of m (Creates r g) = Some (Stores (size_of g) true)
 change_of m (Patches t ops) = Some (Stores (size_of (patched (graph_at m t) ops)) false)
 change_of m (Deletes t) = Some Removes
-change_of m (Looks t) = None
-change_of m (Reads t) = None
+change_of m (Looks c) = None
+change_of m (Reads c) = None
 
 -- what a verdict says of an operation, at the last commit number: its status, what is left, and the counts after it
 abbrev pub Decides : Setting → Dataset → ℕ → Operation → Verdict → Type 0

@@ -9,7 +9,7 @@ use Rattle.gs_event.specs.declared.events.Event.{Event}
 use Rattle.gs_event.specs.declared.events.Event.TheVariants.{Seat as At, Reclaim}
 use Rattle.gs_event.specs.declared.answers.Answer.{Answer}
 use Rattle.gs_event.specs.declared.answers.Answer.TheVariants.{Opened, Staged, Status, Pinned, Lines, Cancelled, Reclaimed, Refused}
-use Rattle.gs_event.specs.Datasets.{Dataset, lines_at}
+use Rattle.gs_event.specs.Datasets.{Dataset, lines_in}
 use Rattle.gs_event.specs.Operations.{Setting, Operation, Patches, Deletes, Looks, Reads, after, status_of, location_of, is_success, wants_memory}
 use Rattle.gs_event.specs.Phases.{Phase, Idle, Writing, Patching, Reading, allows, phase_after, write_of, operation_of}
 
@@ -47,8 +47,8 @@ FitsSeat v Idle (OpenPatch t) (Refused LastNumber) = last_number ≤ v.request
 FitsSeat v Idle (OpenPatch t) (Refused NoMemory) = v.request < last_number
 FitsSeat v Idle (Delete t) (Status s name) = FitsWrite v (Deletes t) (Status s name)
 FitsSeat v Idle (Delete t) (Refused LastNumber) = FitsWrite v (Deletes t) (Refused LastNumber)
-FitsSeat v Idle (Head t) (Status s name) = (s ≡ status_of v.setting v.dataset (Looks t)) × (name ≡ None)
-FitsSeat v Idle (Pin t) (Pinned s) = s ≡ status_of v.setting v.dataset (Reads t)
+FitsSeat v Idle (Head c) (Status s name) = (s ≡ status_of v.setting v.dataset (Looks c)) × (name ≡ None)
+FitsSeat v Idle (Pin c) (Pinned s) = s ≡ status_of v.setting v.dataset (Reads c)
 FitsSeat v (Writing k r g) (Stage ts) Staged = Unit {0}
 FitsSeat v (Writing k r g) (Stage ts) (Refused NoMemory) = Unit {0}
 FitsSeat v (Writing k r g) Commit (Status s name) = FitsWrite v (write_of k r g) (Status s name)
@@ -97,7 +97,7 @@ next_totals v p action a = record {
 
 -- the phase, as it is seen, after an answer to a seat at this phase
 abbrev pub next_phase : Totals → SeatView → Action → Answer → SeatView
-next_phase v p action a = phase_after (lines_at v.dataset) (λ left n. drop n left) p action a
+next_phase v p action a = phase_after (lines_in v.dataset) (λ left n. drop n left) p action a
 
 -- the view after an answer to seat s at this phase
 abbrev pub next_at : View → ℕ → SeatView → Action → Answer → View

@@ -13,6 +13,15 @@ pub enum UploadKind {
     New,
 }
 
+/// What a question or a read is about.
+#[derive(Debug, Drop)]
+pub enum Scope {
+    /// One graph.
+    One(Target),
+    /// The whole dataset: all graphs, as they are at one moment.
+    All,
+}
+
 /// What a seat does. A seat holds at most one upload, patch or read at a time.
 #[derive(Debug, Drop)]
 pub enum Action {
@@ -29,10 +38,10 @@ pub enum Action {
     CommitPatch(Vec<Op>),
     /// Takes a named graph out, or empties the default graph (section 5.4).
     Delete(Target),
-    /// Asks whether there is such a graph (section 5.6).
-    Head(Target),
-    /// Begins a read of a graph as it is now (section 5.2).
-    Pin(Target),
+    /// Asks whether there is such a graph (section 5.6). The whole dataset is always there.
+    Head(Scope),
+    /// Begins a read of a graph, or of all of them, as they are now (section 5.2).
+    Pin(Scope),
     /// Takes the next lines of the seat's read: so many, at least one, or as many as are left.
     Piece(u32),
     /// Gives up the seat's upload, patch or read.

@@ -9,7 +9,7 @@ mod updates;
 mod verdicts;
 
 pub use answers::Answer;
-pub use events::{Action, Event, UploadKind};
+pub use events::{Action, Event, Scope, UploadKind};
 pub use laws::{
     instances_are_found, new_name_is_free, pinned_goes_on, steps_are_legal, steps_take_few,
     updates_add_up, verdict_is_the_stores, view_goes_on,

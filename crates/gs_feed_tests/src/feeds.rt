@@ -7,7 +7,7 @@ use std::test::Fail;
 /// Each is run in pieces of all these lengths in bytes; 0 is whole.
 const CUTS: [u64; 6] = [0, 1, 2, 3, 7, 18_446_744_073_709_551_615];
 
-const FEEDS: [Row; 20] = [
+const FEEDS: [Row; 21] = [
     (
         "blank nodes of different requests are different",
         "0 open post default\n0 feed nt _:x <http://e/p> _:x .\n0 commit\n0 open post default\n0 feed nt _:x <http://e/p> _:x .\n0 commit\n0 pin default\n0 piece 9\n",
@@ -17,6 +17,11 @@ const FEEDS: [Row; 20] = [
         "escapes, and a tag in upper case",
         "0 open put default\n0 feed nt <http://e/\\u00e9> <http://e/p> \"a\\tb\\u0041\\n\"@EN-us .\n0 commit\n0 pin default\n0 piece 1\n",
         "opened 1\nfed\n204\n200\n<http://e/\u{E9}> <http://e/p> \"a\tbA\\n\"@en-us .\nend\n",
+    ),
+    (
+        "what two graphs were fed stands in the lines of all graphs",
+        "0 open put default\n0 feed nt _:x <http://e/p> _:x .\n0 commit\n0 open put <http://e/g>\n0 feed nt _:x <http://e/p> \"a\\tb\\u0041\\n\"@EN-us .\n0 feed nt <http://e/\\u00e9> <http://e/p> \"1\"^^<http://www.w3.org/2001/XMLSchema#integer> .\n0 commit\n0 pin all\n0 piece 2\n0 piece 2\n",
+        "opened 1\nfed\n204\nopened 2\nfed\nfed\n201\n200\n_:b1_1 <http://e/p> _:b1_1 .\n<http://e/\u{E9}> <http://e/p> \"1\"^^<http://www.w3.org/2001/XMLSchema#integer> <http://e/g> .\nmore\n_:b2_1 <http://e/p> \"a\tbA\\n\"@en-us <http://e/g> .\nend\n",
     ),
     (
         "a relative IRI is a fault",

@@ -1,7 +1,7 @@
 //! One triple and then a thousand are added to a thousand others while these are read.
 use crate::lines::{Bounds, Lines};
 use gs_drawn_events::{Place, made, target};
-use gs_event::{Action, Event, UploadKind};
+use gs_event::{Action, Event, Scope, UploadKind};
 use gs_model::Refusal;
 use gs_term::{TermText, Triple};
 use gs_version_models::MOST_FOR_TRIPLE;
@@ -37,7 +37,7 @@ const THREE_VERSIONS: u64 = 3;
 const FIRST: u64 = 4_000;
 
 /// The triple of a number.
-fn triple(alloc: Global, number: u64) -> Result<Triple, Refusal> {
+pub fn triple(alloc: Global, number: u64) -> Result<Triple, Refusal> {
     let subject = format!(in alloc; "http://e/s{number}")?;
     let object = format!(in alloc; "{number}")?;
     made(
@@ -47,7 +47,8 @@ fn triple(alloc: Global, number: u64) -> Result<Triple, Refusal> {
     )
 }
 
-fn push_line(text: &mut String, alloc: Global, number: u64) -> Result<(), AllocError> {
+/// Appends its line.
+pub fn push_line(text: &mut String, alloc: Global, number: u64) -> Result<(), AllocError> {
     let line = format!(in alloc; "<http://e/s{number}> <http://e/p> \"{number}\" .\n")?;
     text.push_str(line.as_str())
 }
@@ -126,7 +127,7 @@ fn with_many() -> Bounds {
 
 /// Seat 1 begins to read.
 fn push_pin(alloc: Global, lines: &mut Lines, bounds: Bounds) -> Result<(), Refusal> {
-    let pin = Action::Pin(target(alloc, Place::A)?);
+    let pin = Action::Pin(Scope::One(target(alloc, Place::A)?));
     lines.push("Pin", Event::Seat(1, pin), "pinned 200", bounds)?;
     Ok(())
 }

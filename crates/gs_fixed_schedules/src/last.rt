@@ -1,27 +1,11 @@
 //! Schedules of stores whose nodes and terms have few numbers.
-use crate::lines::{Bounds, Lines};
-use gs_drawn_events::{Ask, Kind, Place, SORT_NAMES, event, sort_of};
-use gs_event::Event;
+use crate::lines::Lines;
+use crate::rows::{Deed, push_row};
+use gs_drawn_events::{Place, Scope};
 use gs_model::Refusal;
-use std::alloc::{AllocError, Global};
+use std::alloc::Global;
 
-/// What seat 0 is asked.
-#[derive(Clone, Copy, Drop)]
-enum Deed {
-    Put(Place),
-    Post(Place),
-    /// One triple is staged.
-    Stage(usize),
-    Commit,
-    Cancel,
-    Delete(Place),
-    Pin(Place),
-    Piece(u32),
-    /// Up to so many nodes and records are freed.
-    Free(u64),
-}
-
-/// What is asked, what is to be answered, and how many nodes and records are in use then, and triples in graphs.
+/// What seat 0 is asked, what is to be answered, and how many nodes and records are in use then, and triples in graphs.
 type Row = (Deed, &'static str, u64, u64);
 
 /// Four nodes: a fifth triple is refused, and there is room for it once the four were freed. Records have numbers
@@ -29,27 +13,27 @@ type Row = (Deed, &'static str, u64, u64);
 /// freed first is a node: one triple more is taken, and no second.
 const LAST_NODE: [Row; 22] = [
     (Deed::Put(Place::A), "opened 1", 1, 0),
-    (Deed::Stage(0), "staged", 2, 0),
-    (Deed::Stage(1), "staged", 3, 0),
-    (Deed::Stage(2), "staged", 4, 0),
-    (Deed::Stage(3), "staged", 5, 0),
-    (Deed::Stage(4), "refused NoMemory", 5, 0),
+    (Deed::Stage(&[0]), "staged", 2, 0),
+    (Deed::Stage(&[1]), "staged", 3, 0),
+    (Deed::Stage(&[2]), "staged", 4, 0),
+    (Deed::Stage(&[3]), "staged", 5, 0),
+    (Deed::Stage(&[4]), "refused NoMemory", 5, 0),
     (Deed::Commit, "status 201", 5, 4),
     (Deed::Delete(Place::A), "status 204", 5, 0),
     (Deed::Free(9), "reclaimed 5 done", 0, 0),
     (Deed::Put(Place::A), "opened 2", 1, 0),
-    (Deed::Stage(4), "staged", 2, 0),
+    (Deed::Stage(&[4]), "staged", 2, 0),
     (Deed::Commit, "status 201", 2, 1),
     (Deed::Put(Place::B), "opened 3", 3, 1),
-    (Deed::Stage(0), "staged", 4, 1),
-    (Deed::Stage(1), "staged", 5, 1),
-    (Deed::Stage(2), "staged", 6, 1),
-    (Deed::Stage(3), "refused NoMemory", 6, 1),
+    (Deed::Stage(&[0]), "staged", 4, 1),
+    (Deed::Stage(&[1]), "staged", 5, 1),
+    (Deed::Stage(&[2]), "staged", 6, 1),
+    (Deed::Stage(&[3]), "refused NoMemory", 6, 1),
     (Deed::Cancel, "cancelled", 6, 1),
     (Deed::Free(1), "reclaimed 1 more", 5, 1),
     (Deed::Put(Place::B), "opened 4", 6, 1),
-    (Deed::Stage(0), "staged", 7, 1),
-    (Deed::Stage(1), "refused NoMemory", 7, 1),
+    (Deed::Stage(&[0]), "staged", 7, 1),
+    (Deed::Stage(&[1]), "refused NoMemory", 7, 1),
 ];
 
 /// Four nodes: a POST takes them all for its upload, and its graph takes them after that. Then there is none for
@@ -57,23 +41,23 @@ const LAST_NODE: [Row; 22] = [
 /// upload with a node in use.
 const LAST_NODE_POSTED: [Row; 20] = [
     (Deed::Post(Place::A), "opened 1", 1, 0),
-    (Deed::Stage(0), "staged", 2, 0),
-    (Deed::Stage(1), "staged", 3, 0),
-    (Deed::Stage(2), "staged", 4, 0),
-    (Deed::Stage(3), "staged", 5, 0),
+    (Deed::Stage(&[0]), "staged", 2, 0),
+    (Deed::Stage(&[1]), "staged", 3, 0),
+    (Deed::Stage(&[2]), "staged", 4, 0),
+    (Deed::Stage(&[3]), "staged", 5, 0),
     (Deed::Commit, "status 201", 5, 4),
     (Deed::Put(Place::B), "opened 2", 6, 4),
-    (Deed::Stage(4), "refused NoMemory", 6, 4),
+    (Deed::Stage(&[4]), "refused NoMemory", 6, 4),
     (Deed::Cancel, "cancelled", 6, 4),
     (Deed::Delete(Place::A), "status 204", 6, 0),
     (Deed::Free(9), "reclaimed 6 done", 0, 0),
     (Deed::Post(Place::A), "opened 3", 1, 0),
-    (Deed::Stage(0), "staged", 2, 0),
-    (Deed::Stage(1), "staged", 3, 0),
-    (Deed::Stage(2), "staged", 4, 0),
+    (Deed::Stage(&[0]), "staged", 2, 0),
+    (Deed::Stage(&[1]), "staged", 3, 0),
+    (Deed::Stage(&[2]), "staged", 4, 0),
     (Deed::Commit, "status 201", 4, 3),
     (Deed::Post(Place::A), "opened 4", 5, 3),
-    (Deed::Stage(3), "staged", 6, 3),
+    (Deed::Stage(&[3]), "staged", 6, 3),
     (Deed::Commit, "refused NoMemory", 6, 3),
     (Deed::Cancel, "cancelled", 6, 3),
 ];
@@ -83,11 +67,11 @@ const LAST_NODE_POSTED: [Row; 20] = [
 /// subject.
 const LAST_TERM: [Row; 7] = [
     (Deed::Put(Place::A), "opened 1", 1, 0),
-    (Deed::Stage(0), "staged", 2, 0),
-    (Deed::Stage(4), "refused NoMemory", 2, 0),
-    (Deed::Stage(1), "staged", 3, 0),
+    (Deed::Stage(&[0]), "staged", 2, 0),
+    (Deed::Stage(&[4]), "refused NoMemory", 2, 0),
+    (Deed::Stage(&[1]), "staged", 3, 0),
     (Deed::Commit, "status 201", 3, 2),
-    (Deed::Pin(Place::A), "pinned 200", 3, 2),
+    (Deed::Pin(Scope::One(Place::A)), "pinned 200", 3, 2),
     (Deed::Piece(9), TWO_LINES, 3, 2),
 ];
 
@@ -95,44 +79,9 @@ const LAST_TERM: [Row; 7] = [
 const TWO_LINES: &str =
     "lines <http://e/s0> <http://e/p0> \"x\" .\n<http://e/s0> <http://e/p0> <http://e/s0> .\nend";
 
-fn list_of(alloc: Global, number: usize) -> Result<Vec<usize>, AllocError> {
-    let mut list = Vec::new(alloc);
-    list.push(number)?;
-    Ok(list)
-}
-
-/// What a seat is asked, if it is asked anything.
-fn ask_of(alloc: Global, deed: Deed) -> Result<Option<Ask>, AllocError> {
-    match deed {
-        Deed::Put(place) => Ok(Some(Ask::Open(Kind::Put(place)))),
-        Deed::Post(place) => Ok(Some(Ask::Open(Kind::Post(place)))),
-        Deed::Stage(number) => Ok(Some(Ask::Stage(list_of(alloc, number)?))),
-        Deed::Commit => Ok(Some(Ask::Commit)),
-        Deed::Cancel => Ok(Some(Ask::Cancel)),
-        Deed::Delete(place) => Ok(Some(Ask::Delete(place))),
-        Deed::Pin(place) => Ok(Some(Ask::Pin(place))),
-        Deed::Piece(count) => Ok(Some(Ask::Piece(count))),
-        Deed::Free(_) => Ok(None),
-    }
-}
-
-fn push_row(alloc: Global, lines: &mut Lines, row: &Row) -> Result<(), Refusal> {
-    let (deed, words, nodes, triples) = *row;
-    let bounds = Bounds::exactly(nodes, triples);
-    if let Deed::Free(most) = deed {
-        lines.push("Reclaim", Event::Reclaim(most), words, bounds)?;
-    }
-    let Some(ask) = ask_of(alloc, deed)? else {
-        return Ok(());
-    };
-    let name = SORT_NAMES.get(sort_of(&ask)).copied().unwrap_or_default();
-    lines.push(name, event(alloc, 0, &ask)?, words, bounds)?;
-    Ok(())
-}
-
 fn push_rows(alloc: Global, lines: &mut Lines, rows: &[Row]) -> Result<(), Refusal> {
-    for row in rows {
-        push_row(alloc, lines, row)?;
+    for (deed, words, nodes, triples) in rows {
+        push_row(alloc, lines, &(0, *deed, words, *nodes, 0, *triples))?;
     }
     Ok(())
 }

@@ -2,10 +2,15 @@
 //! after each.
 #![tactic(auto)]
 
+mod datasets;
 mod large;
 mod last;
 mod lines;
+mod rows;
+mod seats;
 
+pub use datasets::{beside_kept_writes, beside_writes, two_versions, without_lines};
 pub use large::large_lines;
 pub use last::{last_node_lines, last_node_posts, last_term_lines};
 pub use lines::Lines;
+pub use seats::seat_lines;

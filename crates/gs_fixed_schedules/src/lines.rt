@@ -1,7 +1,11 @@
 //! The lines of a fixed schedule: events, and what is to be answered and counted after each.
-use gs_drawn_schedules::{Effect, Kind, Moment, Stop, Subject, effect};
-use gs_event::Event;
-use gs_version_models::answer_words;
+use gs_drawn_events::Ask;
+use gs_drawn_schedules::{
+    Effect, Effects, Judge, Kind, Moment, Stop, Subject, Totals, effect, on_both,
+};
+use gs_event::{Answer, Event};
+use gs_model::Refusal;
+use gs_version_models::{answer_words, is_same};
 use std::alloc::{AllocError, Global};
 
 /// What is to be answered.
@@ -38,6 +42,8 @@ impl Bounds {
 #[derive(Drop)]
 struct Line {
     event: Event,
+    /// What a seat is asked, as a model has it.
+    ask: Option<Ask>,
     name: &'static str,
     wanted: Wanted,
     bounds: Bounds,
@@ -52,19 +58,60 @@ fn seat_of(event: &Event) -> u16 {
 }
 
 impl Line {
-    /// The event, which was the one with this number, did what it is to do.
-    fn check(&self, alloc: Global, number: usize, effect: &Effect) -> Result<(), Stop> {
-        let moment = Moment {
+    /// The event is the one with this number.
+    fn moment(&self, alloc: Global, number: usize) -> Moment {
+        Moment {
             alloc,
             step: number,
             seat: seat_of(&self.event),
             ask: self.name,
-        };
+        }
+    }
+
+    /// The event did what it is to do.
+    fn check(&self, moment: Moment, effect: &Effect) -> Result<(), Stop> {
         self.check_answer(moment, effect)?;
         let nodes = effect.after.nodes;
         moment.no_less(Kind::FewNodes, nodes, self.bounds.least)?;
         moment.no_more(Kind::Growth, nodes, self.bounds.most)?;
         moment.same_numbers(Kind::Triples, effect.after.triples, self.bounds.triples)
+    }
+
+    /// The plain store answers alike and has as many triples, but it has nothing to free.
+    fn check_plain(&self, moment: Moment, effects: &Effects) -> Result<(), Stop> {
+        let Effects { judged, plain } = effects;
+        moment.same_numbers(Kind::Triples, judged.after.triples, plain.after.triples)?;
+        if matches!(self.event, Event::Reclaim(_)) {
+            return effects.check_plain_reclaim(moment);
+        }
+        if is_same(&judged.answer, &plain.answer) {
+            return Ok(());
+        }
+        let got = answer_words(moment.alloc, &judged.answer)?;
+        let by_plain = answer_words(moment.alloc, &plain.answer)?;
+        Err(moment.found(Kind::PlainAnswer, got, by_plain))
+    }
+
+    /// A judge says whether the event did what it is to do.
+    fn judge(&self, judge: &mut Judge, effects: &Effects, totals: &mut Totals) -> Result<(), Stop> {
+        match (&self.event, &self.ask) {
+            (Event::Seat(seat, _), Some(ask)) => judge.take(*seat, ask, effects, totals),
+            (Event::Reclaim(most), _) => judge.reclaim(*most, effects, totals),
+            _ => Ok(()),
+        }
+    }
+
+    /// A store takes the event. Where it is refused for memory, that has changed nothing that is counted, and
+    /// the store takes it once more.
+    fn taken<S: Subject>(&self, moment: Moment, store: &mut S) -> Result<Effect, Stop> {
+        let first = effect(store, &self.event);
+        if !matches!(first.answer, Answer::Refused(Refusal::NoMemory)) {
+            return Ok(first);
+        }
+        moment.same_numbers(Kind::Growth, first.after.nodes, first.before.nodes)?;
+        moment.same_numbers(Kind::Triples, first.after.triples, first.before.triples)?;
+        drop(first);
+        Ok(effect(store, &self.event))
     }
 
     fn check_answer(&self, moment: Moment, effect: &Effect) -> Result<(), Stop> {
@@ -108,8 +155,44 @@ impl Lines {
         let wanted = String::from_str(self.alloc, words)?;
         self.push_line(Line {
             event,
+            ask: None,
             name,
             wanted: Wanted::Words(wanted),
+            bounds,
+        })
+    }
+
+    /// The same of an event by which a seat is asked this.
+    pub fn push_asked(
+        &mut self,
+        name: &'static str,
+        event: Event,
+        ask: Ask,
+        words: &str,
+        bounds: Bounds,
+    ) -> Result<(), AllocError> {
+        let wanted = String::from_str(self.alloc, words)?;
+        self.push_line(Line {
+            event,
+            ask: Some(ask),
+            name,
+            wanted: Wanted::Words(wanted),
+            bounds,
+        })
+    }
+
+    /// At most so many nodes and records are freed. The words are the whole answer, or `more` or `done` alone.
+    pub fn push_free(&mut self, most: u64, words: &str, bounds: Bounds) -> Result<(), AllocError> {
+        let wanted = match words {
+            "more" => Wanted::Left(true),
+            "done" => Wanted::Left(false),
+            _ => Wanted::Words(String::from_str(self.alloc, words)?),
+        };
+        self.push_line(Line {
+            event: Event::Reclaim(most),
+            ask: None,
+            name: "Reclaim",
+            wanted,
             bounds,
         })
     }
@@ -118,6 +201,7 @@ impl Lines {
     pub fn push_reclaim(&mut self, is_left: bool, bounds: Bounds) -> Result<(), AllocError> {
         self.push_line(Line {
             event: Event::Reclaim(u64::MAX),
+            ask: None,
             name: "Reclaim",
             wanted: Wanted::Left(is_left),
             bounds,
@@ -128,7 +212,49 @@ impl Lines {
     pub fn play<S: Subject>(&self, store: &mut S) -> Result<(), Stop> {
         for (number, line) in self.list.iter().enumerate() {
             let effect = effect(store, &line.event);
-            line.check(self.alloc, number, &effect)?;
+            line.check(line.moment(self.alloc, number), &effect)?;
+        }
+        Ok(())
+    }
+
+    /// The same, where memory may be refused.
+    pub fn play_again<S: Subject>(&self, store: &mut S) -> Result<(), Stop> {
+        for (number, line) in self.list.iter().enumerate() {
+            let moment = line.moment(self.alloc, number);
+            let effect = line.taken(moment, store)?;
+            line.check(moment, &effect)?;
+        }
+        Ok(())
+    }
+
+    /// Plays them on a new store and a new plain store, which answers alike.
+    pub fn play_beside<S: Subject, P: Subject>(
+        &self,
+        store: &mut S,
+        plain: &mut P,
+    ) -> Result<(), Stop> {
+        for (number, line) in self.list.iter().enumerate() {
+            let moment = line.moment(self.alloc, number);
+            let effects = on_both(store, plain, &line.event);
+            line.check(moment, &effects.judged)?;
+            line.check_plain(moment, &effects)?;
+        }
+        Ok(())
+    }
+
+    /// The same, and each step is judged by a model.
+    pub fn play_judged<S: Subject, P: Subject>(
+        &self,
+        judge: &mut Judge,
+        store: &mut S,
+        plain: &mut P,
+    ) -> Result<(), Stop> {
+        let mut totals = Totals::new();
+        for (number, line) in self.list.iter().enumerate() {
+            judge.step = number;
+            let effects = on_both(store, plain, &line.event);
+            line.check(line.moment(self.alloc, number), &effects.judged)?;
+            line.judge(judge, &effects, &mut totals)?;
         }
         Ok(())
     }

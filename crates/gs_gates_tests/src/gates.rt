@@ -50,18 +50,21 @@ impl<'a, D: Door> Door for Behind<'a, D> {
 }
 
 /// Each action once at least.
-const STEPS: [(&str, Step); 12] = [
+const STEPS: [(&str, Step); 15] = [
     ("open", Step::Open),
     ("stage", Step::Stage),
     ("commit", Step::Commit),
     ("pin", Step::Pin),
     ("first piece", Step::Piece),
     ("last piece", Step::Piece),
+    ("pin all", Step::PinAll),
+    ("cancel a read", Step::Cancel),
     ("open patch", Step::OpenPatch),
     ("commit patch", Step::CommitPatch),
     ("open again", Step::Open),
     ("cancel", Step::Cancel),
     ("head", Step::Head),
+    ("head all", Step::HeadAll),
     ("delete", Step::Delete),
 ];
 

@@ -31,7 +31,7 @@ impl<'a, D: Door, R: Wait> Door for Watch<'a, D, R> {
 
 /// What a seat does, and whether a note follows. What is refused, as the seat does something else or
 /// nothing, has none.
-const STEPS: [(&str, Step, bool); 20] = [
+const STEPS: [(&str, Step, bool); 26] = [
     ("a commit of nothing", Step::Commit, false),
     ("an upload opens", Step::Open, false),
     ("triples come", Step::Stage, false),
@@ -44,12 +44,22 @@ const STEPS: [(&str, Step, bool); 20] = [
     ("another read begins", Step::Pin, false),
     ("it is given up", Step::Cancel, true),
     ("nothing is given up", Step::Cancel, false),
+    ("a read of all graphs begins", Step::PinAll, false),
+    ("the first line of all", Step::Piece, false),
+    (
+        "a question about all within their read",
+        Step::HeadAll,
+        false,
+    ),
+    ("the last line of all", Step::Piece, true),
+    ("a line of no read of all", Step::Piece, false),
     ("another upload opens", Step::Open, false),
     ("it is given up, too", Step::Cancel, true),
     ("a patch opens", Step::OpenPatch, false),
     ("it ends", Step::CommitPatch, true),
     ("a patch of nothing", Step::CommitPatch, false),
     ("a question", Step::Head, false),
+    ("a question about all", Step::HeadAll, false),
     ("a delete", Step::Delete, true),
     ("a question again", Step::Head, false),
 ];

@@ -1,10 +1,10 @@
 //! What a seat does, step by step.
-use gs_event::{Action, Event, UploadKind};
+use gs_event::{Action, Event, Scope, UploadKind};
 use gs_model::Refusal;
 use gs_term::{Target, TermText, Triple};
 use std::alloc::Global;
 
-/// What a seat does to the default graph.
+/// What a seat does to the default graph, or asks of all graphs.
 #[derive(Clone, Copy)]
 pub enum Step {
     Open,
@@ -14,7 +14,9 @@ pub enum Step {
     CommitPatch,
     Delete,
     Head,
+    HeadAll,
     Pin,
+    PinAll,
     Piece,
     Cancel,
 }
@@ -43,8 +45,10 @@ pub fn event(alloc: Global, seat: u16, step: Step) -> Result<Event, Refusal> {
         Step::OpenPatch => Action::OpenPatch(Target::Default),
         Step::CommitPatch => Action::CommitPatch(Vec::new(alloc)),
         Step::Delete => Action::Delete(Target::Default),
-        Step::Head => Action::Head(Target::Default),
-        Step::Pin => Action::Pin(Target::Default),
+        Step::Head => Action::Head(Scope::One(Target::Default)),
+        Step::HeadAll => Action::Head(Scope::All),
+        Step::Pin => Action::Pin(Scope::One(Target::Default)),
+        Step::PinAll => Action::Pin(Scope::All),
         Step::Piece => Action::Piece(1),
         Step::Cancel => Action::Cancel,
     };

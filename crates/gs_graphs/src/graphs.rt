@@ -4,11 +4,13 @@ ghost use Rattle.std.specs.List.{concat, filter};
 ghost use Rattle.std.specs.List.Sorted.{IsSorted, IsStrictlySortedBy};
 ghost use Rattle.gs_model.specs.Triples.{line_of, triple_cmp};
 ghost use Rattle.gs_model.specs.Graphs.{empty_graph, with_triples, graph_of, triples_of, lines_of, size_of};
+ghost use Rattle.gs_term.specs.Names.{quad_line_of};
+ghost use Rattle.gs_event.specs.Datasets.{named_lines};
 ghost use Rattle.gs_event.specs.Solutions.{is_among};
 ghost use Rattle.gs_event.specs.Updates.{without_triples};
 
-use gs_ntwrite::line;
-use gs_term::Triple;
+use gs_ntwrite::{line, quad_line};
+use gs_term::{GraphName, Triple};
 use std::alloc::{AllocError, Global};
 use std::marker::Model;
 
@@ -134,7 +136,21 @@ impl SortedGraph {
     ) -> Result<Vec<u8>, AllocError>
         ensures { IfOk result (λ bytes. bytes.items ≡ concat (take count (drop start (lines_of self.now)))) }
     {
-        lines_between(alloc, self.triples.as_slice(), start, count)
+        lines_in_order(alloc, part(self.triples.as_slice(), start, count))
+    }
+
+    /// The same of the lines that a graph of this name has.
+    pub fn quads_from(
+        &self,
+        alloc: Global,
+        name: &GraphName,
+        start: usize,
+        count: usize,
+    ) -> Result<Vec<u8>, AllocError>
+        ensures { IfOk result (λ bytes.
+            bytes.items ≡ concat (take count (drop start (named_lines (name.now, self.now))))) }
+    {
+        quads_in_order(alloc, name, part(self.triples.as_slice(), start, count))
     }
 }
 
@@ -177,19 +193,37 @@ fn is_in(sorted: &[Triple], triple: &Triple) -> bool
     sorted.binary_search(triple).is_ok()
 }
 
-fn lines_between(
-    alloc: Global,
-    triples: &[Triple],
-    start: usize,
-    count: usize,
-) -> Result<Vec<u8>, AllocError>
-    ensures { IfOk result (λ out. out.items ≡ concat (take count (drop start (map line_of triples.now)))) }
+/// The triples from the one at `start` on, `count` of them or as many as there are.
+fn part(triples: &[Triple], start: usize, count: usize) -> &[Triple]
+    ensures { result.now ≡ take count (drop start triples.now) }
 {
     let from = start.min(triples.len());
-    let shown = &triples[from..from + count.min(triples.len() - from)];
+    &triples[from..from + count.min(triples.len() - from)]
+}
+
+fn lines_in_order(alloc: Global, triples: &[Triple]) -> Result<Vec<u8>, AllocError>
+    ensures { IfOk result (λ out. out.items ≡ concat (map line_of triples.now)) }
+{
     let mut bytes = Vec::new(alloc);
-    for triple in shown {
+    for triple in triples {
         match line(triple, &mut bytes) {
+            Ok(()) => {}
+            Err(_) => return Err(AllocError),
+        }
+    }
+    Ok(bytes)
+}
+
+fn quads_in_order(
+    alloc: Global,
+    name: &GraphName,
+    triples: &[Triple],
+) -> Result<Vec<u8>, AllocError>
+    ensures { IfOk result (λ out. out.items ≡ concat (map (quad_line_of name.now) triples.now)) }
+{
+    let mut bytes = Vec::new(alloc);
+    for triple in triples {
+        match quad_line(triple, name, &mut bytes) {
             Ok(()) => {}
             Err(_) => return Err(AllocError),
         }

@@ -1,6 +1,6 @@
 //! What a head asks for, and the size that a line writes, as text.
 use gs_http::Framing;
-use gs_names::Media;
+use gs_names::{Media, ReplyType};
 use gs_term::Target;
 use gs_verdict::{Asked, Denial, Method, Verdict};
 use std::alloc::{AllocError, Global};
@@ -22,6 +22,14 @@ fn media_name(media: Media) -> &'static str {
         Media::Turtle => "turtle",
         Media::NTriples => "n-triples",
         Media::Update => "update",
+    }
+}
+
+fn reply_name(reply: ReplyType) -> &'static str {
+    match reply {
+        ReplyType::NTriples => "n-triples",
+        ReplyType::Turtle => "turtle",
+        ReplyType::NQuads => "n-quads",
     }
 }
 
@@ -69,7 +77,7 @@ fn asked_text(alloc: Global, asked: &Asked) -> Result<String, AllocError> {
         method_name(asked.method),
         graph_name(&asked.graph),
         media_name(asked.body),
-        media_name(asked.reply),
+        reply_name(asked.reply),
         close_word(asked.closes)
     )
 }

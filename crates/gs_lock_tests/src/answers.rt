@@ -6,7 +6,7 @@ ghost use Rattle.gs_pass.specs.Stamps.{keeper as keeper_of};
 
 use gs_core::{Answer, Event, Refusal, Store};
 use gs_door::Door;
-use gs_schedules::{ROWS, Row};
+use gs_schedules::{DATASETS, ROWS, Row};
 use gs_shared::{CountedLedger, Pass, PassDoor, Room, Shared, StampCell, Token, stamp_cell};
 use gs_test_events::{answered, events, printed};
 use std::alloc::Global;
@@ -16,7 +16,7 @@ use std::sync::ledger::Blank;
 use std::test::Fail;
 
 /// The schedules that are fed texts, with their triples and operations in the place of the texts.
-const FED: [Row; 6] = [
+const FED: [Row; 7] = [
     (
         "nodes of two requests are different",
         "0 open post default\n0 stage _1_1 <p> _1_1\n0 commit\n0 open post default\n0 stage _2_1 <p> _2_1\n0 commit\n0 pin default\n0 piece 9\n",
@@ -41,6 +41,11 @@ const FED: [Row; 6] = [
         "a tab, a line feed, and a tag in upper case",
         "0 open put default\n0 stage <\u{E9}> <p> \"a\tbA\\n\"@EN-us\n0 commit\n0 pin default\n0 piece 1\n",
         "opened 1\nstaged\n204\n200\n<http://e/\u{E9}> <http://e/p> \"a\tbA\\n\"@en-us .\nend\n",
+    ),
+    (
+        "all graphs are read as they are at one moment, in the order of their names with brackets",
+        "0 open post default\n0 stage <1> <p> \"1\"\n0 commit\n0 open put <http://e/g>\n0 stage <2> <p> _1_1 . <1> <p> \"2\"\n0 commit\n3 open put <http://e/g!>\n3 stage <3> <p> \"3\"\n3 commit\n1 pin all\n0 delete <http://e/g>\n2 pin all\n1 piece 3\n2 piece 9\n1 piece 1\n",
+        "opened 1\nstaged\n204\nopened 2\nstaged\n201\nopened 3\nstaged\n201\n200\n204\n200\n<http://e/1> <http://e/p> \"1\" .\n<http://e/3> <http://e/p> \"3\" <http://e/g!> .\n<http://e/1> <http://e/p> \"2\" <http://e/g> .\nmore\n<http://e/1> <http://e/p> \"1\" .\n<http://e/3> <http://e/p> \"3\" <http://e/g!> .\nend\n<http://e/2> <http://e/p> _:b1_1 <http://e/g> .\nend\n",
     ),
     (
         "a text with a fault is given up",
@@ -192,10 +197,10 @@ fn printed_by_store(alloc: Global, events: &[Event]) -> Result<String, Refusal> 
     Ok(text?)
 }
 
-/// Adds a line to a schedule, and before a Pin a Head of its target.
+/// Adds a line to a schedule, and before a Pin a Head of its scope.
 fn add_line(alloc: Global, text: &mut String, line: &str) -> Result<(), Refusal> {
-    if let Some((seat, target)) = line.split_once(" pin ") {
-        let head = format!(in alloc; "{seat} head {target}\n")?;
+    if let Some((seat, scope)) = line.split_once(" pin ") {
+        let head = format!(in alloc; "{seat} head {scope}\n")?;
         text.push_str(head.as_str())?;
     }
     text.push_str(line)?;
@@ -203,7 +208,7 @@ fn add_line(alloc: Global, text: &mut String, line: &str) -> Result<(), Refusal>
     Ok(())
 }
 
-/// A schedule with a Head of its target before each Pin.
+/// A schedule with a Head of its scope before each Pin.
 fn with_heads(alloc: Global, input: &str) -> Result<String, Refusal> {
     let mut text = String::new(alloc);
     for line in input.lines() {
@@ -258,5 +263,11 @@ fn other_row<R: Wait>(
 fn same_answers(rt: HostRuntime) -> Result<(), Fail> {
     assert_eq!(rt; other_row(&rt, rt.alloc(), &ROWS)?, None);
     assert_eq!(rt; other_row(&rt, rt.alloc(), &FED)?, None);
+    Ok(())
+}
+
+#[test]
+fn same_answers_of_all_graphs(rt: HostRuntime) -> Result<(), Fail> {
+    assert_eq!(rt; other_row(&rt, rt.alloc(), &DATASETS)?, None);
     Ok(())
 }

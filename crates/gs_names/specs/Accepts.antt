@@ -6,8 +6,10 @@ use Rattle.httparse.specs.Grammar.{trim_ows}
 use Rattle.gs_model.specs.Punctuation.{dot, semicolon, equals_sign}
 use Rattle.gs_model.specs.Terms.{digit}
 use Rattle.gs_http.specs.Connections.{elements_of}
-use Rattle.gs_names.specs.declared.media.Media.{Media}
-use Rattle.gs_names.specs.declared.media.Media.TheVariants.{Turtle, NTriples}
+use Rattle.gs_names.specs.declared.media.ReplyType.{ReplyType}
+use Rattle.gs_names.specs.declared.media.ReplyType.TheVariants.{NTriples, Turtle, NQuads}
+use Rattle.gs_names.specs.declared.targets.Goal.{Goal}
+use Rattle.gs_names.specs.declared.targets.Goal.TheVariants as goal
 use Rattle.gs_names.specs.Words.{front_word, back_word, is_same_word, semicolon_parts}
 
 -- qvalue (section 12.4.2): `0` or `1` with at most three decimals, after `1` only zeros
@@ -57,10 +59,22 @@ admits exact wide values =
     else if some_element (counts wide) values then some_element (passes wide) values
     else some_element (passes (codes "*/*")) values
 
--- by the values of Accept: N-Triples where it is admitted, then Turtle
-abbrev pub reply_type_of : List (List ℕ) → Option Media
-reply_type_of values =
+-- the type of the lines of one graph: N-Triples where it is admitted, then Turtle
+abbrev pub graph_type_of : List (List ℕ) → Option ReplyType
+graph_type_of values =
     if not (some_element is_filled values) then Some NTriples
     else if admits (codes "application/n-triples") (codes "application/*") values then Some NTriples
     else if admits (codes "text/turtle") (codes "text/*") values then Some Turtle
     else None
+
+-- the type of the lines of all graphs: N-Quads where it is admitted
+abbrev pub dataset_type_of : List (List ℕ) → Option ReplyType
+dataset_type_of values =
+    if not (some_element is_filled values) then Some NQuads
+    else if admits (codes "application/n-quads") (codes "application/*") values then Some NQuads
+    else None
+
+-- by what is named, and the values of Accept
+abbrev pub reply_type_of : Goal → List (List ℕ) → Option ReplyType
+reply_type_of goal.Store values = dataset_type_of values
+reply_type_of other values = graph_type_of values

@@ -9,7 +9,8 @@ ghost use Rattle.gs_names.specs.Words.{semicolon_parts};
 ghost use Rattle.gs_names.specs.Accepts as spec;
 ghost use Rattle.gs_names.specs.Accepts.{some_element};
 
-use crate::media::Media;
+use crate::media::ReplyType;
+use crate::targets::Goal;
 use crate::words::{back_word, front_word};
 use gs_http::{is_same_word, trim};
 use http_header::HeaderMap;
@@ -166,17 +167,41 @@ fn admits(kept: &HeaderMap<&[u8]>, exact: &[u8], wide: &[u8]) -> bool
     }
 }
 
-/// The type of the reply, if one is acceptable.
-pub fn reply_type(kept: &HeaderMap<&[u8]>) -> Option<Media>
-    ensures { result ≡ spec.reply_type_of (kept_under kept.now (codes "accept")) }
+/// The type of the lines of one graph, if one is acceptable.
+fn graph_type(kept: &HeaderMap<&[u8]>) -> Option<ReplyType>
+    ensures { result ≡ spec.graph_type_of (kept_under kept.now (codes "accept")) }
 {
     if !some_filled(kept) {
-        Some(Media::NTriples)
+        Some(ReplyType::NTriples)
     } else if admits(kept, b"application/n-triples", b"application/*") {
-        Some(Media::NTriples)
+        Some(ReplyType::NTriples)
     } else if admits(kept, b"text/turtle", b"text/*") {
-        Some(Media::Turtle)
+        Some(ReplyType::Turtle)
     } else {
         None
+    }
+}
+
+/// The type of the lines of all graphs, if it is acceptable.
+fn dataset_type(kept: &HeaderMap<&[u8]>) -> Option<ReplyType>
+    ensures { result ≡ spec.dataset_type_of (kept_under kept.now (codes "accept")) }
+{
+    if !some_filled(kept) {
+        Some(ReplyType::NQuads)
+    } else if admits(kept, b"application/n-quads", b"application/*") {
+        Some(ReplyType::NQuads)
+    } else {
+        None
+    }
+}
+
+/// The type of the reply, if one is acceptable: the lines of a graph have no names of graphs, and
+/// those of the store itself have them.
+pub fn reply_type(kept: &HeaderMap<&[u8]>, goal: &Goal) -> Option<ReplyType>
+    ensures { result ≡ spec.reply_type_of goal.now (kept_under kept.now (codes "accept")) }
+{
+    match goal {
+        Goal::Store => dataset_type(kept),
+        _ => graph_type(kept),
     }
 }

@@ -13,7 +13,7 @@ mod words;
 pub use accept::reply_type;
 pub use content::body_type;
 pub use laws::tested_name_is_a_name;
-pub use media::{BodyType, Media};
+pub use media::{BodyType, Media, ReplyType};
 pub use places::Places;
 pub use routes::Route;
 pub use targets::{Goal, read_target};

@@ -1,6 +1,6 @@
 //! Types of bodies and replies.
 
-/// A media type that is served.
+/// The media type of a body.
 #[derive(Clone, Copy, Debug, PartialEq)]
 pub enum Media {
     /// `text/turtle`
@@ -9,6 +9,17 @@ pub enum Media {
     NTriples,
     /// `application/sparql-update`
     Update,
+}
+
+/// The media type of a reply with lines.
+#[derive(Clone, Copy, Debug, PartialEq)]
+pub enum ReplyType {
+    /// `application/n-triples`
+    NTriples,
+    /// `text/turtle`
+    Turtle,
+    /// `application/n-quads`
+    NQuads,
 }
 
 /// What Content-Type says.

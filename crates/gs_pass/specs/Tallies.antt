@@ -31,8 +31,8 @@ abbrev pub decides : Action → Answer → Option (ActionKind × ℕ)
 decides Commit (Status s name) = Some (CommitKind, s)
 decides (CommitPatch ops) (Status s name) = Some (PatchKind, s)
 decides (Delete t) (Status s name) = Some (DeleteKind, s)
-decides (Head t) (Status s name) = Some (HeadKind, s)
-decides (Pin t) (Pinned s) = Some (PinKind, s)
+decides (Head c) (Status s name) = Some (HeadKind, s)
+decides (Pin c) (Pinned s) = Some (PinKind, s)
 decides action a = None
 
 -- how many triples an action brings that was answered so: those of a Stage, and triples and patterns of a CommitPatch

@@ -30,7 +30,7 @@ last_new b r g name is within last ready =
       seat = refl;
       pin = refl;
       known = tt;
-      rows = same_rows b.rows.items;
+      rows = same_rows b.commit b.rows.items;
       counted = ready.counted;
       staged = refl;
     }

@@ -1,7 +1,7 @@
 -- What a seat's action keeps of the whole store.
-use Rattle.std.proofs.Common.{zero, suc, drop, ◌≡◌, ℕ, ◌+◌, ◌<◌, ◌≤◌, true, false, cond, List, [], ◌∷◌, map, length, get_or, Some, None, MatchOption, refl, sym, ap, ◌∙◌, subst, arith, vec_len, vec_capacity, string_bytes, option_map, replicate, add-zero}
+use Rattle.std.proofs.Common.{zero, suc, drop, ◌≡◌, ℕ, ◌+◌, ◌<◌, ◌≤◌, Bool, true, false, cond, List, [], ◌∷◌, map, length, get_or, Some, None, MatchOption, refl, sym, ap, ◌∙◌, subst, arith, vec_len, vec_capacity, string_bytes, option_map, replicate, add-zero}
 use Rattle.std.specs.List.{slice_get, slice_set, count_by, sum_by, All, range_with_len}
-use Rattle.gs_event.specs.Datasets.{empty_dataset, triples_in, names_in, records_in}
+use Rattle.gs_event.specs.Datasets.{empty_dataset, quads_of, triples_in, names_in, records_in}
 use Rattle.gs_event.specs.Histories.{view_of}
 use Rattle.gs_event.specs.Waste.{Shown, held_at, held_in, nodes_in}
 use Rattle.gs_event.proofs.DatasetLemmas.{triples_in-empty, names_in-empty}
@@ -18,11 +18,11 @@ use Rattle.gs_event.specs.declared.events.Action.{Action}
 use Rattle.gs_event.specs.declared.answers.Answer.{Answer}
 use Rattle.gs_event.specs.declared.answers.Answer.TheVariants.{Refused}
 use Rattle.gs_event.specs.Phases as phase
-use Rattle.gs_event.specs.Views.{View, SeatView, FitsSeat, next_phase, next_at, next_if}
+use Rattle.gs_event.specs.Views.{View, Totals, SeatView, FitsSeat, is_written, next_phase, next_at, next_if}
 use Rattle.gs_plain.specs.declared.books.Row.{Row}
 use Rattle.gs_plain.specs.declared.books.Books.{Books}
 use Rattle.gs_plain.specs.declared.books.Seat.{Seat}
-use Rattle.gs_plain.specs.declared.books.Seat.TheVariants.{Idle, Writing, Patching, Reading}
+use Rattle.gs_plain.specs.declared.books.Seat.TheVariants.{Idle, Writing, Patching, Reading, ReadingAll}
 use Rattle.gs_plain.specs.declared.stores.PlainStore.TheInside.{Inside}
 use Rattle.gs_plain.specs.Books.{staged_by, dataset_of, totals_of, seat_shown, will_commit, IsKnown, KeepsRows}
 use Rattle.gs_plain.specs.Actions.{Acts, HasRowRoom, KeepsRoom}
@@ -33,26 +33,31 @@ abbrev pub view_of_fields : Inside → View
 view_of_fields a = (shown_of a).view
 
 -- rows that keep what they had change nothing of what a known read shows
-same_shown : (old new : List Row) (s : Seat) → KeepsRows old new → IsKnown old s → seat_shown new s ≡ seat_shown old s
-same_shown old new Idle keeps h = refl
-same_shown old new (Writing k r g) keeps h = refl
-same_shown old new (Patching t r) keeps h = refl
-same_shown old new (Reading None given pin) keeps h = refl
-same_shown old new (Reading (Some i) given pin) keeps h = ap (λ lines. phase.Reading (drop given lines)) (keeps.same i h)
+same_shown : (commit : ℕ) (old new : List Row) (s : Seat) → KeepsRows commit old new → IsKnown commit old s → seat_shown new s ≡ seat_shown old s
+same_shown commit old new Idle keeps h = refl
+same_shown commit old new (Writing k r g) keeps h = refl
+same_shown commit old new (Patching t r) keeps h = refl
+same_shown commit old new (Reading None given pin) keeps h = refl
+same_shown commit old new (Reading (Some i) given pin) keeps h = ap (λ lines. phase.Reading (drop given lines)) (keeps.same i h)
+same_shown commit old new (ReadingAll given pin) keeps h = ap (λ m. phase.Reading (drop given (quads_of m))) (keeps.past pin h.0)
 
-still_known : (old new : List Row) (s : Seat) → KeepsRows old new → IsKnown old s → IsKnown new s
-still_known old new Idle keeps h = h
-still_known old new (Writing k r g) keeps h = h
-still_known old new (Patching t r) keeps h = h
-still_known old new (Reading None given pin) keeps h = h
-still_known old new (Reading (Some i) given pin) keeps h = omega (arith, keeps.grows)
+still_known : (commit later : ℕ) (old new : List Row) (s : Seat) → commit ≤ later → KeepsRows commit old new → IsKnown commit old s → IsKnown later new s
+still_known commit later old new Idle le keeps h = h
+still_known commit later old new (Writing k r g) le keeps h = h
+still_known commit later old new (Patching t r) le keeps h = h
+still_known commit later old new (Reading None given pin) le keeps h = h
+still_known commit later old new (Reading (Some i) given pin) le keeps h = omega (arith, keeps.grows)
+still_known commit later old new (ReadingAll given pin) le keeps h = (omega (arith, h.0), rw (keeps.past pin h.0) h.1)
 
-all_same_shown : (old new : List Row) (seats : List Seat) → KeepsRows old new → AllByRecursion (IsKnown old) seats → map (seat_shown new) seats ≡ map (seat_shown old) seats
-all_same_shown old new [] keeps h = refl
-all_same_shown old new (s ∷ seats) keeps h =
-    let here = same_shown old new s keeps h.0 in
-    let rest = all_same_shown old new seats keeps h.1 in
+all_same_shown : (commit : ℕ) (old new : List Row) (seats : List Seat) → KeepsRows commit old new → AllByRecursion (IsKnown commit old) seats → map (seat_shown new) seats ≡ map (seat_shown old) seats
+all_same_shown commit old new [] keeps h = refl
+all_same_shown commit old new (s ∷ seats) keeps h =
+    let here = same_shown commit old new s keeps h.0 in
+    let rest = all_same_shown commit old new seats keeps h.1 in
     λ i. here i ∷ rest i
+
+no_earlier : (old new : ℕ) (b : Bool) → new ≡ old + cond b 1 0 → old ≤ new
+no_earlier old new b e = omega arith
 
 others_few : (seats : List Seat) (i : ℕ) → i < length seats → count_by will_commit (slice_set seats i Idle) < length seats
 others_few [] i h = absurd (omega arith)
@@ -77,7 +82,8 @@ pub kept_after : (a b : Inside) (i : ℕ) (was now : Seat) (action : Action) (an
 kept_after a b i was now action answer within is seats acts room kept =
     let xs = a.seats.items in
     let old_rows = a.books.rows.items in
-    let known : All (IsKnown b.books.rows.items) xs = λ k d lt. still_known old_rows b.books.rows.items (get_or xs k d) acts.rows (kept.known k d lt) in
+    let since = no_earlier a.books.commit b.books.commit (is_written answer) (ap (λ (v : Totals). v.commit) acts.totals) in
+    let known : All (IsKnown b.books.commit b.books.rows.items) xs = λ k d lt. still_known a.books.commit b.books.commit old_rows b.books.rows.items (get_or xs k d) since acts.rows (kept.known k d lt) in
     let others = count_by will_commit (slice_set xs i Idle) in
     let idle : others + cond (will_commit (get_or xs i was)) 1 0 ≡ count_by will_commit xs + 0 = sum_by-set (λ x. cond (will_commit x) 1 0) xs i Idle was within in
     let after : count_by will_commit (slice_set xs i now) + cond (will_commit (get_or xs i was)) 1 0 ≡ count_by will_commit xs + cond (will_commit now) 1 0 = sum_by-set (λ x. cond (will_commit x) 1 0) xs i now was within in
@@ -86,7 +92,7 @@ kept_after a b i was now action answer within is seats acts room kept =
     let later : HasRowRoom b.books others now = room.kept others (others_few xs i within) before in
     let total : sum_by staged_by (slice_set xs i now) + staged_by (get_or xs i was) ≡ sum_by staged_by xs + staged_by now = sum_by-set staged_by xs i now was within in
     record {
-      known = rw seats (All-set (IsKnown b.books.rows.items) xs i now acts.known known);
+      known = rw seats (All-set (IsKnown b.books.commit b.books.rows.items) xs i now acts.known known);
       room = rw seats (has_room (vec_len b.books.rows) others (cond {A = ℕ} (will_commit (get_or xs i was)) 1 0) (cond {A = ℕ} (will_commit now) 1 0) (count_by will_commit xs) (count_by will_commit (slice_set xs i now)) (vec_capacity b.books.rows) idle after later);
       counted = acts.counted;
       staged = rw seats (moved a.books.staged b.books.staged (sum_by staged_by xs) (sum_by staged_by (slice_set xs i now)) (staged_by was) (staged_by now) (staged_by (get_or xs i was)) acts.staged kept.staged total (ap staged_by is));
@@ -103,13 +109,13 @@ fits_after a v new i was now action answer view within is acts =
     (rw (seat_there a i was within is) acts.fits)
 
 -- what is shown then is what comes next
-pub next_after : (a b : Inside) (v : View) (i : ℕ) (was now : Seat) (action : Action) (answer : Answer) → view_of_fields a ≡ v → i < length a.seats.items → was ≡ get_or a.seats.items i was → b.seats.items ≡ slice_set a.seats.items i now → Acts a.books b.books was now action answer → All (IsKnown a.books.rows.items) a.seats.items → view_of_fields b ≡ next_if v i (slice_get v.seats i) action answer
+pub next_after : (a b : Inside) (v : View) (i : ℕ) (was now : Seat) (action : Action) (answer : Answer) → view_of_fields a ≡ v → i < length a.seats.items → was ≡ get_or a.seats.items i was → b.seats.items ≡ slice_set a.seats.items i now → Acts a.books b.books was now action answer → All (IsKnown a.books.commit a.books.rows.items) a.seats.items → view_of_fields b ≡ next_if v i (slice_get v.seats i) action answer
 next_after a b v i was now action answer view within is seats acts known =
     let old_rows = a.books.rows.items in
     let shown : map (seat_shown b.books.rows.items) b.seats.items ≡ slice_set (map (seat_shown old_rows) a.seats.items) i (next_phase (totals_of a.books) (seat_shown old_rows was) action answer) =
     ap (map (seat_shown b.books.rows.items)) seats
     ∙ map-set (seat_shown b.books.rows.items) a.seats.items i now
-    ∙ ap (λ ss. slice_set ss i (seat_shown b.books.rows.items now)) (all_same_shown old_rows b.books.rows.items a.seats.items acts.rows (recursion_from_All (IsKnown old_rows) a.seats.items known))
+    ∙ ap (λ ss. slice_set ss i (seat_shown b.books.rows.items now)) (all_same_shown a.books.commit old_rows b.books.rows.items a.seats.items acts.rows (recursion_from_All (IsKnown a.books.commit old_rows) a.seats.items known))
     ∙ ap (slice_set (map (seat_shown old_rows) a.seats.items) i) acts.seat in
     let made : view_of_fields b ≡ next_at (view_of_fields a) i (seat_shown old_rows was) action answer = λ j. record { totals = acts.totals j; seats = shown j } in
     made ∙ sym (ap (λ o. next_if (view_of_fields a) i o action answer) (seat_there a i was within is)) ∙ ap (λ (u : View). next_if u i (slice_get u.seats i) action answer) view
@@ -134,19 +140,20 @@ none_writing n = let e : count_by will_commit (replicate n Idle) ≡ n * 0 = sum
 none_staged : (n : ℕ) → sum_by staged_by (replicate n Idle) ≡ 0
 none_staged n = let e : sum_by staged_by (replicate n Idle) ≡ n * 0 = sum_by-replicate staged_by n Idle in omega (arith, e)
 
-idle_known : (rows : List Row) (n : ℕ) → AllByRecursion (IsKnown rows) (replicate n Idle)
-idle_known rows zero = tt
-idle_known rows (suc n) = (tt, idle_known rows n)
+idle_known : (commit : ℕ) (rows : List Row) (n : ℕ) → AllByRecursion (IsKnown commit rows) (replicate n Idle)
+idle_known commit rows zero = tt
+idle_known commit rows (suc n) = (tt, idle_known commit rows n)
 
 -- what holds of a store without rows, whose seats are idle
 pub fresh_kept : (a : Inside) (seats : ℕ) → a.books.rows.items ≡ [] → vec_len a.books.rows ≡ 0 → a.seats.items ≡ replicate seats Idle → a.books.triples ≡ 0 → a.books.names ≡ 0 → a.books.staged ≡ 0 → is_base (string_bytes a.books.base) ≡ true → IsKept a
 fresh_kept a seats rows len idle triples names staged base = record {
-  known = rw idle (All-from_recursion (IsKnown a.books.rows.items) (replicate seats Idle) (idle_known a.books.rows.items seats));
+  known = rw idle (All-from_recursion (IsKnown a.books.commit a.books.rows.items) (replicate seats Idle) (idle_known a.books.commit a.books.rows.items seats));
   room = rw idle (omega (arith, len, none_writing seats));
   counted = record {
     triples = triples ∙ sym triples_in-empty ∙ sym (ap (λ rs. triples_in (dataset_of rs)) rows);
     names = names ∙ sym names_in-empty ∙ sym (ap (λ rs. names_in (dataset_of rs)) rows);
     few = omega arith;
+    dated = rw rows tt;
     base = base;
   };
   staged = staged ∙ sym (none_staged seats) ∙ sym (ap (sum_by staged_by) idle);
@@ -158,6 +165,7 @@ held_shown rows Idle = refl
 held_shown rows (Writing k r g) = refl
 held_shown rows (Patching t r) = refl
 held_shown rows (Reading row given pin) = refl
+held_shown rows (ReadingAll given pin) = refl
 
 all_held_shown : (rows : List Row) (seats : List Seat) → held_in (map (seat_shown rows) seats) ≡ sum_by staged_by seats + count_by will_commit seats
 all_held_shown rows [] = refl

@@ -1,7 +1,9 @@
 pub mod CommitLemmas
 pub mod KeptLemmas
+pub mod PastLemmas
 pub mod PinLemmas
 pub mod PostLemmas
+pub mod QuadLemmas
 pub mod RowLemmas
 pub mod WasteLemmas
 pub mod WriteLemmas

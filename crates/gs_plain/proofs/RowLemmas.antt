@@ -43,11 +43,11 @@ graph_at-without_graph m (Named a) (Named b) =
 
 -- what a row makes of the graph of a target
 abbrev pub at_row : Target → Row → Option Graph → Option Graph
-at_row u r o = cond (target_eq r.target u) (cond r.ended (graph_at empty_dataset u) (Some r.graph)) o
+at_row u r o = cond (target_eq r.target u) (cond (is_some r.ended) (graph_at empty_dataset u) (Some r.graph)) o
 
 pub graph_at-after_row : (m : Dataset) (r : Row) (u : Target) → graph_at (after_row m r) u ≡ at_row u r (graph_at m u)
 graph_at-after_row m r u =
-    elim r.ended as (λ b. graph_at (cond b (without_graph m r.target) (with_graph m r.target r.graph)) u ≡ cond (target_eq r.target u) (cond b (graph_at empty_dataset u) (Some r.graph)) (graph_at m u)) [
+    elim (is_some r.ended) as (λ b. graph_at (cond b (without_graph m r.target) (with_graph m r.target r.graph)) u ≡ cond (target_eq r.target u) (cond b (graph_at empty_dataset u) (Some r.graph)) (graph_at m u)) [
       | true ↦ graph_at-without_graph m r.target u
       | false ↦ graph_at-with_graph m r.target u r.graph
     ]
@@ -94,29 +94,34 @@ still_last front row t (Some j) other h = record {
   parts = ap (λ rs. rs ++ row ∷ []) h.parts ∙ append_assoc h.before (h.row ∷ h.later) (row ∷ []);
   place = h.place;
   same = h.same;
+  stays = h.stays;
   others = others_push t h.later row h.others other;
 }
 
+none_left : (o : Option ℕ) → is_some o ≡ false → o ≡ None
+none_left None e = refl
+none_left (Some x) e = absurd (Prim.cc)
+
 -- one row more
 pub newest_more : (rows front : List Row) (row : Row) (t : Target) (found : Option ℕ) (same : Bool) → slice_get rows (length front) ≡ Some row → target_eq row.target t ≡ same → IsNewest rows front t found
-    → IsNewest rows (front ++ row ∷ []) t (cond same (cond row.ended None (Some (length front))) found)
+    → IsNewest rows (front ++ row ∷ []) t (cond same (cond (is_some row.ended) None (Some (length front))) found)
 newest_more rows front row t found true at same sofar =
-    let here : graph_at (dataset_of (front ++ row ∷ [])) t ≡ cond row.ended (graph_at empty_dataset t) (Some row.graph) =
+    let here : graph_at (dataset_of (front ++ row ∷ [])) t ≡ cond (is_some row.ended) (graph_at empty_dataset t) (Some row.graph) =
     ap (λ m. graph_at m t) (dataset_push front row) ∙ graph_at-after_row (dataset_of front) row t
-    ∙ ap (λ b. cond b (cond row.ended (graph_at empty_dataset t) (Some row.graph)) (graph_at (dataset_of front) t)) same in
-    elim row.ended as (λ b. graph_at (dataset_of (front ++ row ∷ [])) t ≡ cond b (graph_at empty_dataset t) (Some row.graph) → IsNewest rows (front ++ row ∷ []) t (cond b None (Some (length front)))) [
-      | true ↦ λ is. record { graph = is; within = search rules; last = search rules }
-      | false ↦ λ is. record {
+    ∙ ap (λ b. cond b (cond (is_some row.ended) (graph_at empty_dataset t) (Some row.graph)) (graph_at (dataset_of front) t)) same in
+    elim (is_some row.ended) as (λ b. is_some row.ended ≡ b → graph_at (dataset_of (front ++ row ∷ [])) t ≡ cond b (graph_at empty_dataset t) (Some row.graph) → IsNewest rows (front ++ row ∷ []) t (cond b None (Some (length front)))) [
+      | true ↦ λ e is. record { graph = is; within = search rules; last = search rules }
+      | false ↦ λ e is. record {
         graph = is ∙ sym (ap graph_of_row at);
         within = omega (arith, length-append front (row ∷ []));
-        last = record { before = front; row = row; later = []; parts = refl; place = refl; same = same; others = tt };
+        last = record { before = front; row = row; later = []; parts = refl; place = refl; same = same; stays = none_left row.ended e; others = tt };
       }
-    ] here
+    ] refl here
 newest_more rows front row t found false at same sofar =
     record {
       graph =
           ap (λ m. graph_at m t) (dataset_push front row) ∙ graph_at-after_row (dataset_of front) row t
-          ∙ ap (λ b. cond b (cond row.ended (graph_at empty_dataset t) (Some row.graph)) (graph_at (dataset_of front) t)) same ∙ sofar.graph;
+          ∙ ap (λ b. cond b (cond (is_some row.ended) (graph_at empty_dataset t) (Some row.graph)) (graph_at (dataset_of front) t)) same ∙ sofar.graph;
       within = further found (length front) (length (front ++ row ∷ [])) (omega (arith, length-append front (row ∷ []))) sofar.within;
       last = still_last front row t found same sofar.last;
     }
@@ -171,14 +176,14 @@ derived_eq (Named a) (Named b) = refl
 
 -- one step of the search
 pub newest_step : (rows : List Row) (i : ℕ) (row : Row) (t : Target) (found : Option ℕ) (same : Bool) → i < length rows → row ≡ get_or rows i row → target_eq row.target t ≡ same → IsNewest rows (take i rows) t found
-    → IsNewest rows (take (i + 1) rows) t (cond same (cond row.ended None (Some i)) found)
+    → IsNewest rows (take (i + 1) rows) t (cond same (cond (is_some row.ended) None (Some i)) found)
 newest_step rows i row t found same within is tests sofar =
     let long : length (take i rows) ≡ i = length-take-le i rows (omega arith) in
     let at : slice_get rows (length (take i rows)) ≡ Some row = ap (slice_get rows) long ∙ slice_get-get_or rows i row within ∙ ap Some (sym is) in
     let next = newest_more rows (take i rows) row t found same at tests sofar in
     let grown : take i rows ++ row ∷ [] ≡ take (i + 1) rows = ap (λ r. take i rows ++ r ∷ []) is ∙ sym (take_more rows i row within) in
-    let moved = subst (λ n. IsNewest rows (take i rows ++ row ∷ []) t (cond same (cond row.ended None (Some n)) found)) long next in
-    subst (λ front. IsNewest rows front t (cond same (cond row.ended None (Some i)) found)) grown moved
+    let moved = subst (λ n. IsNewest rows (take i rows ++ row ∷ []) t (cond same (cond (is_some row.ended) None (Some n)) found)) long next in
+    subst (λ front. IsNewest rows front t (cond same (cond (is_some row.ended) None (Some i)) found)) grown moved
 
 pub newest_end : (rows : List Row) (i : ℕ) (t : Target) (found : Option ℕ) → length rows ≤ i → IsNewest rows (take i rows) t found → NewestRow rows t found
 newest_end rows i t found past all = newest_row rows t found (subst (λ front. IsNewest rows front t found) (take_all i rows past) all)
@@ -197,7 +202,7 @@ name_less m (Named n) = omega (arith, map.len-remove name_total m.named n, one_l
 
 name_more : (m : Dataset) (r : Row) → names_in (after_row m r) ≤ names_in m + 1
 name_more m r =
-    elim r.ended as (λ b. names_in (cond b (without_graph m r.target) (with_graph m r.target r.graph)) ≤ names_in m + 1) [
+    elim (is_some r.ended) as (λ b. names_in (cond b (without_graph m r.target) (with_graph m r.target r.graph)) ≤ names_in m + 1) [
       | true ↦ name_less m r.target
       | false ↦ omega (arith, names_in-with_graph m r.target r.graph, one_at_most (is_there m r.target) (names_in m))
     ]

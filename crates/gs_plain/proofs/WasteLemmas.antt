@@ -12,7 +12,7 @@ use Rattle.gs_event.specs.declared.events.Event.TheVariants.{Seat as At, Reclaim
 use Rattle.gs_event.specs.declared.answers.Answer.{Answer}
 use Rattle.gs_event.specs.declared.answers.Answer.TheVariants.{Status, Cancelled, Reclaimed}
 use Rattle.gs_event.specs.Waste.{Lifetime, Shown}
-use Rattle.gs_event.specs.Phases.{Idle, Writing, Patching, Reading}
+use Rattle.gs_event.specs.Phases.{Writing, Patching}
 use Rattle.gs_event.specs.Views.{Totals, SeatView}
 use Rattle.gs_event.specs.Steps.{Joins, JoinsBoth, UploadNodes, UpdateNodes, DeleteNodes, WastesNodes, UploadRecords, UpdateRecords, DeleteRecords, WastesRecords, WastesIf, Wastes}
 

@@ -16,7 +16,7 @@ use Rattle.gs_plain.specs.Books.{seat_shown, totals_of, will_commit, staged_by, 
 
 -- books and one of their seats, before an action
 pub record IsReady (b : Books) (s : Seat) : Type 0 where
-  pub known : IsKnown b.rows.items s
+  pub known : IsKnown b.commit b.rows.items s
   pub counted : IsCounted b
   pub staged : staged_by s ≤ b.staged
 
@@ -26,8 +26,8 @@ pub record Acts (old new : Books) (was now : Seat) (action : Action) (answer : A
   pub totals : totals_of new ≡ next_totals (totals_of old) (seat_shown old.rows.items was) action answer
   pub seat : seat_shown new.rows.items now ≡ next_phase (totals_of old) (seat_shown old.rows.items was) action answer
   pub pin : seat_pin now ≡ pin_after old.commit (seat_pin was) action answer
-  pub known : IsKnown new.rows.items now
-  pub rows : KeepsRows old.rows.items new.rows.items
+  pub known : IsKnown new.commit new.rows.items now
+  pub rows : KeepsRows old.commit old.rows.items new.rows.items
   pub counted : IsCounted new
   pub staged : new.staged + staged_by was ≡ old.staged + staged_by now
 

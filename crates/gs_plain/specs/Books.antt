@@ -1,5 +1,5 @@
 -- What the rows and the seats of a plain store show. No public clause cites this module.
-use Rattle.std.specs.Prelude.{◌≡◌, ℕ, ◌<◌, ◌+◌, ◌≤◌, Bool, true, false, List, [], Option, Some, None, drop, length, IfSome, if◌then◌else◌, string_bytes}
+use Rattle.std.specs.Prelude.{◌≡◌, ℕ, ◌<◌, ◌+◌, ◌≤◌, Bool, true, false, List, [], Option, Some, None, is_some, drop, length, IfSome, if◌then◌else◌, string_bytes}
 use Rattle.std.specs.List.{fold, slice_get}
 use Rattle.gs_model.specs.Graphs.{Graph, lines_of, size_of}
 use Rattle.gs_model.specs.Bases.{is_base}
@@ -9,7 +9,7 @@ use Rattle.gs_term.specs.declared.names.Target.TheVariants.{Default, Named}
 use Rattle.gs_event.specs.declared.verdicts.Holdings.{Holdings}
 use Rattle.gs_event.specs.declared.verdicts.Change.{Change}
 use Rattle.gs_event.specs.declared.verdicts.Verdict.{Verdict}
-use Rattle.gs_event.specs.Datasets.{Dataset, empty_dataset, graph_at, with_graph, without_graph, size_at, triples_in, names_in}
+use Rattle.gs_event.specs.Datasets.{Dataset, empty_dataset, graph_at, with_graph, without_graph, quads_of, size_at, triples_in, names_in}
 use Rattle.gs_event.specs.Names.{new_name}
 use Rattle.gs_event.specs.Operations.{Setting}
 use Rattle.gs_event.specs.Phases as phase
@@ -18,11 +18,12 @@ use Rattle.gs_event.specs.Verdicts.{DecidesStore, DecidesChange, holdings_of, pl
 use Rattle.gs_plain.specs.declared.books.Row.{Row}
 use Rattle.gs_plain.specs.declared.books.Books.{Books}
 use Rattle.gs_plain.specs.declared.books.Seat.{Seat}
-use Rattle.gs_plain.specs.declared.books.Seat.TheVariants.{Idle, Writing, Patching, Reading}
+use Rattle.gs_plain.specs.declared.books.Seat.TheVariants.{Idle, Writing, Patching, Reading, ReadingAll}
+use Rattle.gs_plain.specs.Past.{dataset_at, AreBy}
 
 -- each row is a write, and an ended one a removal: the newest row of a target is its graph
 abbrev pub after_row : Dataset → Row → Dataset
-after_row m row = if row.ended then without_graph m row.target else with_graph m row.target row.graph
+after_row m row = if is_some row.ended then without_graph m row.target else with_graph m row.target row.graph
 
 -- the dataset after all of these rows, from an empty one
 abbrev pub dataset_of : List Row → Dataset
@@ -38,12 +39,13 @@ abbrev pub row_lines : List Row → Option ℕ → List (List ℕ)
 row_lines rows None = []
 row_lines rows (Some i) = lines_of_row (slice_get rows i)
 
--- a seat as it is seen: a read is the lines of its row after those that were given
+-- a seat as it is seen: a read is the lines of its row, or of the dataset as it was at its pin, after those that were given
 abbrev pub seat_shown : List Row → Seat → SeatView
 seat_shown rows Idle = phase.Idle
 seat_shown rows (Writing k r g) = phase.Writing k r g
 seat_shown rows (Patching t r) = phase.Patching t r
 seat_shown rows (Reading row given pin) = phase.Reading (drop given (row_lines rows row))
+seat_shown rows (ReadingAll given pin) = phase.Reading (drop given (quads_of (dataset_at pin rows)))
 
 -- the base and the limits of the books
 abbrev pub books_setting : Books → Setting
@@ -98,38 +100,48 @@ staged_by Idle = 0
 staged_by (Writing k r g) = size_of g
 staged_by (Patching t r) = 0
 staged_by (Reading row given pin) = 0
+staged_by (ReadingAll given pin) = 0
 
 -- the last commit number at the pin of the seat's read
 abbrev pub seat_pin : Seat → Option ℕ
 seat_pin (Reading row given pin) = Some pin
+seat_pin (ReadingAll given pin) = Some pin
 seat_pin s = None
 
--- a read's row is among these
-abbrev pub IsKnown : List Row → Seat → Type 0
-IsKnown rows (Reading row given pin) = IfSome row (λ i. i < length rows)
-IsKnown rows s = Unit {0}
+-- whether the seat reads all graphs
+abbrev pub is_of_all : Seat → Bool
+is_of_all (ReadingAll given pin) = true
+is_of_all s = false
 
--- each row that was there has the lines that it had
-pub record KeepsRows (old new : List Row) : Type 0 where
+-- the most nodes: their numbers begin at 0
+abbrev pub most_nodes : ℕ
+most_nodes = last_node + 1
+
+-- at this last commit number, a read's row is among these; and the dataset that one of all graphs reads is no later
+abbrev pub IsKnown : ℕ → List Row → Seat → Type 0
+IsKnown commit rows (Reading row given pin) = IfSome row (λ i. i < length rows)
+IsKnown commit rows (ReadingAll given pin) = (pin ≤ commit) × (triples_in (dataset_at pin rows) ≤ most_nodes)
+IsKnown commit rows s = Unit {0}
+
+-- from this last commit number on, each row that was there has the lines that it had, and the past is as it was
+pub record KeepsRows (commit : ℕ) (old new : List Row) : Type 0 where
   pub grows : length old ≤ length new
   pub same : (i : ℕ) → i < length old → lines_of_row (slice_get new i) ≡ lines_of_row (slice_get old i)
+  pub past : (v : ℕ) → v ≤ commit → dataset_at v new ≡ dataset_at v old
 
 -- whether the target is the default graph
 abbrev pub is_default : Target → Bool
 is_default Default = true
 is_default (Named n) = false
 
--- the most nodes: their numbers begin at 0
-abbrev pub most_nodes : ℕ
-most_nodes = last_node + 1
-
 -- a node's number is left for each triple, with g in the place of the target's graph
 abbrev pub HasNodesFor : Books → Target → Graph → Type 0
 HasNodesFor b t g = b.triples + b.staged + size_of g ≤ size_now b t + most_nodes
 
--- the counts are right and leave a node's number for each triple, and the base is one
+-- the counts are right and leave a node's number for each triple, no row is of a later commit, and the base is one
 pub record IsCounted (b : Books) : Type 0 where
   pub triples : b.triples ≡ triples_in (dataset_of b.rows.items)
   pub names : b.names ≡ names_in (dataset_of b.rows.items)
   pub few : b.triples + b.staged ≤ most_nodes
+  pub dated : AreBy b.commit b.rows.items
   pub base : is_base (string_bytes b.base) ≡ true

@@ -13,9 +13,9 @@ shown_of a = record {
   waste = [];
 }
 
--- each read's row is there, there is room for the row of each upload and patch, and the counts are right
+-- what each read reads is there, there is room for the row of each upload and patch, and the counts are right
 pub record IsKept (a : Inside) : Type 0 where
-  pub known : All (IsKnown a.books.rows.items) a.seats.items
+  pub known : All (IsKnown a.books.commit a.books.rows.items) a.seats.items
   pub room : vec_len a.books.rows + count_by will_commit a.seats.items ≤ vec_capacity a.books.rows
   pub counted : IsCounted a.books
   pub staged : a.books.staged ≡ sum_by staged_by a.seats.items

@@ -1,7 +1,10 @@
--- Read in this order: what rows and seats show, the newest row of a target, what a write makes of the books, what an
--- action makes of the books and of its seat, and what is true of every store.
+-- Read in this order: the dataset after a past commit, what rows and seats show, the newest row of a target, the graphs
+-- that are found of a past dataset, what a write makes of the books, what an action makes of the books and of its seat,
+-- and what is true of every store.
+pub mod Past
 pub mod Books
 pub mod Newest
+pub mod Quads
 pub mod Versions
 pub mod Actions
 pub mod Kept

@@ -30,7 +30,7 @@ abbrev pub AreOthers : Target → List Row → Type 0
 AreOthers t [] = Unit {0}
 AreOthers t (r ∷ rs) = (target_eq r.target t ≡ false) × AreOthers t rs
 
--- row i is of this target, and none after it
+-- row i is of this target and is not ended, and none after it is of this target
 pub record IsLastRow (rows : List Row) (t : Target) (i : ℕ) : Type 0 where
   pub before : List Row
   pub row : Row
@@ -38,6 +38,7 @@ pub record IsLastRow (rows : List Row) (t : Target) (i : ℕ) : Type 0 where
   pub parts : rows ≡ before ++ row ∷ later
   pub place : i ≡ length before
   pub same : target_eq row.target t ≡ true
+  pub stays : row.ended ≡ None
   pub others : AreOthers t later
 
 -- the row of a target that says its graph, if one does

@@ -34,8 +34,8 @@ pub fn act(
         Action::Commit => writes::commit(books, seat, alloc),
         Action::CommitPatch(operations) => patches::commit(books, seat, alloc, operations),
         Action::Delete(target) => writes::delete(books, seat, target),
-        Action::Head(target) => reads::head(books, seat, target),
-        Action::Pin(target) => reads::pin(books, seat, target),
+        Action::Head(scope) => reads::head(books, seat, scope),
+        Action::Pin(scope) => reads::pin(books, seat, scope),
         Action::Piece(count) => reads::piece(books, seat, alloc, *count),
         Action::Cancel => cancel(books, seat),
     }
@@ -99,7 +99,7 @@ fn cancel(books: &mut Books, seat: &mut Seat) -> Answer
     match seat {
         Seat::Idle => return Answer::Refused(Refusal::WrongPhase),
         Seat::Writing(_, _, graph) => books.staged -= graph.len() as u64,
-        Seat::Patching(_, _) | Seat::Reading(_, _, _) => {}
+        Seat::Patching(_, _) | Seat::Reading(_, _, _) | Seat::ReadingAll(_, _) => {}
     }
     *seat = Seat::Idle;
     Answer::Cancelled

@@ -15,8 +15,10 @@ use gs_term::Target;
 pub struct Row {
     pub target: Target,
     pub graph: SortedGraph,
-    /// Whether the target was deleted while this row was its newest.
-    pub ended: bool,
+    /// The number of the commit that made it.
+    pub birth: u64,
+    /// The number of the commit that took its target's graph away while this row was its newest.
+    pub ended: Option<u64>,
 }
 
 /// What a seat is doing.
@@ -30,6 +32,8 @@ pub enum Seat {
     /// A read: the row that it reads (none for an empty default graph), how many lines were given,
     /// and the last commit number at its pin.
     Reading(Option<usize>, usize, u64),
+    /// A read of all graphs: how many lines were given, and the last commit number at its pin.
+    ReadingAll(usize, u64),
 }
 
 /// The numbers given out, how much there is, and the versions of all graphs.
@@ -59,7 +63,7 @@ pub fn newest(rows: &[Row], target: &Target) -> Option<usize>
     let mut found = None;
     for (i, row) in rows.iter().enumerate() {
         if row.target == *target {
-            found = if row.ended { None } else { Some(i) };
+            found = if row.ended.is_some() { None } else { Some(i) };
         }
     }
     found
@@ -120,25 +124,26 @@ pub fn put_version(books: &mut Books, target: Target, graph: SortedGraph, triple
     requires number { books.old.commit < last_number }
     ensures { PutsVersion books.old books.new target graph }
 {
-    books.rows.push_reserved(Row {
-        target,
-        graph,
-        ended: false,
-    });
     books.triples = triples;
     books.names = names;
     books.commit += 1;
+    books.rows.push_reserved(Row {
+        target,
+        graph,
+        birth: books.commit,
+        ended: None,
+    });
 }
 
-/// Marks a row as ended.
-fn end_row(rows: &mut Vec<Row>, i: usize)
+/// Marks a row as ended by the commit of this number.
+fn end_row(rows: &mut Vec<Row>, i: usize, commit: u64)
     requires { i < length rows.old.items }
-    ensures row { EndsRow rows.old.items rows.new.items i }
+    ensures row { EndsRow rows.old.items rows.new.items i commit }
     ensures len { vec_len rows.new ≡ vec_len rows.old }
     ensures capacity { vec_capacity rows.new ≡ vec_capacity rows.old }
 {
     let row = &mut rows[i];
-    row.ended = true;
+    row.ended = Some(commit);
 }
 
 /// Takes the target's graph away, under the next commit number; there are so many triples and
@@ -156,5 +161,5 @@ pub fn end_version(books: &mut Books, target: &Target, triples: u64, names: u64)
     let Some(i) = newest(books.rows.as_slice(), target) else {
         return;
     };
-    end_row(&mut books.rows, i);
+    end_row(&mut books.rows, i, books.commit);
 }

@@ -5,6 +5,7 @@ mod actions;
 mod books;
 mod names;
 mod patches;
+mod quads;
 mod reads;
 mod stores;
 mod verdicts;

@@ -1,33 +1,71 @@
-//! Reads: whether there is a graph, the pin of one, and its lines piece by piece.
-ghost use Rattle.std.specs.Prelude.{◌≡◌, ◌+◌, ◌<◌, ◌^◌, ℕ, IfSome, IfOk, length, take, drop};
+//! Reads: whether there is a graph, the pin of one or of all, and their lines piece by piece.
+ghost use Rattle.std.specs.Prelude.{◌≡◌, ◌+◌, ◌<◌, ◌^◌, ℕ, true, false, IfSome, IfOk, length, take, drop};
 ghost use Rattle.std.specs.List.{concat};
+ghost use Rattle.gs_event.specs.Datasets.{has as has_of};
 ghost use Rattle.gs_event.specs.declared.events.Action.TheVariants.{Head, Pin, Piece};
-ghost use Rattle.gs_plain.specs.Books.{row_lines};
+ghost use Rattle.gs_event.specs.declared.events.Scope.TheVariants.{One, All};
+ghost use Rattle.gs_plain.specs.Books.{dataset_of, row_lines, is_of_all};
 ghost use Rattle.gs_plain.specs.Actions.{IsReady, Acts, HoldsRoom};
 
 use crate::books::{self, Books, Row, Seat};
-use gs_event::Answer;
+use crate::quads;
+use gs_event::{Answer, Scope};
 use gs_model::Refusal;
 use gs_term::Target;
 use std::alloc::{AllocError, Global};
 
-/// Answers 200 where the target has a graph, and else 404, if the seat is idle.
-pub fn head(books: &mut Books, seat: &mut Seat, target: &Target) -> Answer
+/// Whether the scope can be read: the dataset always, and a target where it has a graph.
+fn has(rows: &[Row], scope: &Scope) -> bool
+    ensures { result ≡ has_of (dataset_of rows.now) scope.now }
+{
+    match scope {
+        Scope::One(target) => books::is_there(rows, target),
+        Scope::All => true,
+    }
+}
+
+/// Answers 200 where the scope can be read, and else 404, if the seat is idle.
+pub fn head(books: &mut Books, seat: &mut Seat, scope: &Scope) -> Answer
     requires { IsReady books.old seat.old }
-    ensures acts { Acts books.old books.new seat.old seat.new (Head target.now) result }
+    ensures acts { Acts books.old books.new seat.old seat.new (Head scope.now) result }
     ensures room { HoldsRoom books.old books.new seat.old seat.new }
 {
     let Seat::Idle = seat else {
         return Answer::Refused(Refusal::WrongPhase);
     };
-    let there = books::is_there(books.rows.as_slice(), target);
+    let there = has(books.rows.as_slice(), scope);
     Answer::Status(if there { 200 } else { 404 }, None)
 }
 
-/// Begins a read of the target's graph at the seat, if it is idle and the target has one.
-pub fn pin(books: &mut Books, seat: &mut Seat, target: &Target) -> Answer
+/// Begins a read of the scope at the seat, if it is idle. Takes no memory.
+pub fn pin(books: &mut Books, seat: &mut Seat, scope: &Scope) -> Answer
     requires { IsReady books.old seat.old }
-    ensures acts { Acts books.old books.new seat.old seat.new (Pin target.now) result }
+    ensures acts { Acts books.old books.new seat.old seat.new (Pin scope.now) result }
+    ensures room { HoldsRoom books.old books.new seat.old seat.new }
+{
+    match scope {
+        Scope::One(target) => pin_one(books, seat, target),
+        Scope::All => pin_all(books, seat),
+    }
+}
+
+/// The same of all graphs: a read of them needs no more than the last commit number.
+fn pin_all(books: &mut Books, seat: &mut Seat) -> Answer
+    requires { IsReady books.old seat.old }
+    ensures acts { Acts books.old books.new seat.old seat.new (Pin All) result }
+    ensures room { HoldsRoom books.old books.new seat.old seat.new }
+{
+    let Seat::Idle = seat else {
+        return Answer::Refused(Refusal::WrongPhase);
+    };
+    *seat = Seat::ReadingAll(0, books.commit);
+    Answer::Pinned(200)
+}
+
+/// The same of one graph.
+fn pin_one(books: &mut Books, seat: &mut Seat, target: &Target) -> Answer
+    requires { IsReady books.old seat.old }
+    ensures acts { Acts books.old books.new seat.old seat.new (Pin (One target.now)) result }
     ensures room { HoldsRoom books.old books.new seat.old seat.new }
 {
     let Seat::Idle = seat else {
@@ -47,12 +85,26 @@ pub fn piece(books: &mut Books, seat: &mut Seat, alloc: Global, count: u32) -> A
     ensures acts { Acts books.old books.new seat.old seat.new (Piece count) result }
     ensures room { HoldsRoom books.old books.new seat.old seat.new }
 {
-    let Seat::Reading(row, given, _) = seat else {
-        return Answer::Refused(Refusal::WrongPhase);
-    };
     if count == 0 {
         return Answer::Refused(Refusal::WrongPhase);
     }
+    match seat {
+        Seat::ReadingAll(_, _) => piece_of_all(books, seat, alloc, count),
+        _ => piece_of_one(books, seat, alloc, count),
+    }
+}
+
+/// The same of a read of one graph.
+fn piece_of_one(books: &mut Books, seat: &mut Seat, alloc: Global, count: u32) -> Answer
+    requires ready { IsReady books.old seat.old }
+    requires some { 0 < count }
+    requires one { is_of_all seat.old ≡ false }
+    ensures acts { Acts books.old books.new seat.old seat.new (Piece count) result }
+    ensures room { HoldsRoom books.old books.new seat.old seat.new }
+{
+    let Seat::Reading(row, given, _) = seat else {
+        return Answer::Refused(Refusal::WrongPhase);
+    };
     let count = count as usize;
     let Ok((bytes, left)) = read(books.rows.as_slice(), *row, *given, count, alloc) else {
         return Answer::Refused(Refusal::NoMemory);
@@ -62,6 +114,31 @@ pub fn piece(books: &mut Books, seat: &mut Seat, alloc: Global, count: u32) -> A
         return Answer::Lines(bytes, true);
     }
     *given += count;
+    Answer::Lines(bytes, false)
+}
+
+/// The same of a read of all graphs, by their versions at its pin.
+fn piece_of_all(books: &mut Books, seat: &mut Seat, alloc: Global, count: u32) -> Answer
+    requires ready { IsReady books.old seat.old }
+    requires some { 0 < count }
+    requires all { is_of_all seat.old ≡ true }
+    ensures acts { Acts books.old books.new seat.old seat.new (Piece count) result }
+    ensures room { HoldsRoom books.old books.new seat.old seat.new }
+{
+    let Seat::ReadingAll(given, pin) = seat else {
+        unreachable!();
+    };
+    let (given, pin) = (*given, *pin);
+    let count = count as usize;
+    let rows = books.rows.as_slice();
+    let Ok((bytes, left)) = quads::quads_from(rows, pin, given, count, alloc) else {
+        return Answer::Refused(Refusal::NoMemory);
+    };
+    if left <= count {
+        *seat = Seat::Idle;
+        return Answer::Lines(bytes, true);
+    }
+    *seat = Seat::ReadingAll(given + count, pin);
     Answer::Lines(bytes, false)
 }
 

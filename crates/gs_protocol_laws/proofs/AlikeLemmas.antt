@@ -24,7 +24,7 @@ AreAlike p q = outline p ≡ outline q
 
 -- the table of phases over outlines
 abbrev next : Phase (Unit {0}) → Action → Answer → Phase (Unit {0})
-next = phase_after (λ t. tt) (λ left n. tt)
+next = phase_after (λ c. tt) (λ left n. tt)
 
 pinned_outline : (b : Bool) (x : OpenRead) → outline (cond b (Reading x) Idle) ≡ cond b (Reading tt) Idle
 pinned_outline true x = refl
@@ -37,7 +37,7 @@ given_outline false x = refl
 outline_later : (h : History) (p : Phase OpenRead) (action : Action) (a : Answer) → outline (later h p action a) ≡ next (outline p) action a
 outline_later h Idle (Open k) (Opened r) = refl
 outline_later h Idle (OpenPatch t) (Opened r) = refl
-outline_later h Idle (Pin t) (Pinned s) = pinned_outline (nat_eq s 200) (record { target = t; before = h; given = 0 })
+outline_later h Idle (Pin c) (Pinned s) = pinned_outline (nat_eq s 200) (record { scope = c; before = h; given = 0 })
 outline_later h (Writing t r g) (Stage ts) Staged = refl
 outline_later h (Writing t r g) Commit (Status s name) = refl
 outline_later h (Writing t r g) Cancel Cancelled = refl
@@ -49,8 +49,8 @@ outline_later h p action a = refl
 
 outline_asks : (p : Phase OpenRead) (action : Action) (a : Answer) → operation_of (outline p) action a ≡ operation_of p action a
 outline_asks Idle (Delete t) (Status s name) = refl
-outline_asks Idle (Head t) (Status s name) = refl
-outline_asks Idle (Pin t) (Pinned s) = refl
+outline_asks Idle (Head c) (Status s name) = refl
+outline_asks Idle (Pin c) (Pinned s) = refl
 outline_asks (Writing t r g) Commit (Status s name) = refl
 outline_asks (Patching t r) (CommitPatch ops) (Status s name) = refl
 outline_asks p action a = refl

@@ -1,7 +1,7 @@
 -- What the answers of a legal history say of its phases, and of the statuses of what was asked.
 use Rattle.std.proofs.Common.{◌≡◌, ◌⊎◌, inl, inr, ℕ, zero, suc, ◌+◌, ◌<◌, Bool, true, false, cond, List, [], ◌∷◌, ◌++◌, map, Option, Some, None, MatchOption, refl, sym, ap, ◌∙◌, subst, arith, add-zero, zero-add}
 use Rattle.std.specs.List.{slice_get, range_with_len}
-use Rattle.gs_term.specs.declared.names.Target.{Target}
+use Rattle.gs_event.specs.declared.events.Scope.{Scope}
 use Rattle.gs_model.specs.declared.refusals.Refusal.{Refusal}
 use Rattle.gs_model.specs.declared.refusals.Refusal.TheVariants.{BadSeat}
 use Rattle.gs_event.specs.declared.events.Action.{Action}
@@ -10,7 +10,7 @@ use Rattle.gs_event.specs.declared.events.Event.{Event}
 use Rattle.gs_event.specs.declared.events.Event.TheVariants.{Seat as At, Reclaim}
 use Rattle.gs_event.specs.declared.answers.Answer.{Answer}
 use Rattle.gs_event.specs.declared.answers.Answer.TheVariants.{Status, Pinned, Refused}
-use Rattle.gs_event.specs.Datasets.{is_there}
+use Rattle.gs_event.specs.Datasets.{has}
 use Rattle.gs_event.specs.Operations.{Setting, Operation, Patches, Deletes, Looks, Reads, status_of, location_of, is_success}
 use Rattle.gs_event.specs.Phases.{Phase, Idle, Writing, Patching, Reading, write_of, operation_of}
 use Rattle.gs_event.specs.Views.{Totals, SeatView, Fits, FitsSeat, is_written}
@@ -59,8 +59,8 @@ there_fits start h s action a there f =
 -- a refusal asks nothing
 refused_asks : (p : Phase OpenRead) (action : Action) (r : Refusal) → operation_of p action (Refused r) ≡ None
 refused_asks Idle (Delete t) r = refl
-refused_asks Idle (Head t) r = refl
-refused_asks Idle (Pin t) r = refl
+refused_asks Idle (Head c) r = refl
+refused_asks Idle (Pin c) r = refl
 refused_asks (Writing k n g) Commit r = refl
 refused_asks (Patching t n) (CommitPatch ops) r = refl
 refused_asks p action r = refl
@@ -87,14 +87,14 @@ pub asked_only : (b : Bool) → is_success (cond b 200 404) ≡ false
 asked_only true = refl
 asked_only false = refl
 
-read_tells : (v : Totals) (t : Target) (s : ℕ) (q : Operation) → Some (Reads t) ≡ Some q → Tells v q (Pinned s)
-read_tells v t s q is = subst (λ p. Tells v p (Pinned s)) (same_asked (Reads t) q is)
-    (record { success = asked_only (is_there v.dataset t); status = λ n k same. absurd (cc); name = λ n k same. absurd (cc) })
+read_tells : (v : Totals) (c : Scope) (s : ℕ) (q : Operation) → Some (Reads c) ≡ Some q → Tells v q (Pinned s)
+read_tells v c s q is = subst (λ p. Tells v p (Pinned s)) (same_asked (Reads c) q is)
+    (record { success = asked_only (has v.dataset c); status = λ n k same. absurd (cc); name = λ n k same. absurd (cc) })
 
 phase_tells : (v : Totals) (w : Setting) (p : Phase OpenRead) (action : Action) (a : Answer) (q : Operation) → FitsSeat v (seat_view w p) action a → operation_of p action a ≡ Some q → Tells v q a
 phase_tells v w Idle (Delete t) (Status s name) q f is = status_tells v (Deletes t) q s name is f.0 f.1
-phase_tells v w Idle (Head t) (Status s name) q f is = status_tells v (Looks t) q s name is f.0 f.1
-phase_tells v w Idle (Pin t) (Pinned s) q f is = read_tells v t s q is
+phase_tells v w Idle (Head c) (Status s name) q f is = status_tells v (Looks c) q s name is f.0 f.1
+phase_tells v w Idle (Pin c) (Pinned s) q f is = read_tells v c s q is
 phase_tells v w (Writing k r g) Commit (Status s name) q f is = status_tells v (write_of k r g) q s name is f.0 f.1
 phase_tells v w (Patching t r) (CommitPatch ops) (Status s name) q f is = status_tells v (Patches t ops.items) q s name is f.0 f.1
 phase_tells v w p action a q f is = absurd (cc)
@@ -124,45 +124,45 @@ pub name_made : (start : Start) (h : History) (x : Event × Answer) (q : Operati
     → location_of start.setting (dataset_after start.setting h) q ≡ Some n
 name_made start h x q n legal is e = name_told (view_of start h).totals q x.1 n (event_tells start h x.0 x.1 q legal is) e
 
-head_fits : (v : Totals) (w : Setting) (p : Phase OpenRead) (t : Target) (s : ℕ) (name : Option (List ℕ)) → FitsSeat v (seat_view w p) (Head t) (Status s name) → s ≡ status_of v.setting v.dataset (Looks t)
-head_fits v w Idle t s name f = f.0
-head_fits v w (Writing k r g) t s name f = absurd f
-head_fits v w (Patching u r) t s name f = absurd f
-head_fits v w (Reading r) t s name f = absurd f
+head_fits : (v : Totals) (w : Setting) (p : Phase OpenRead) (c : Scope) (s : ℕ) (name : Option (List ℕ)) → FitsSeat v (seat_view w p) (Head c) (Status s name) → s ≡ status_of v.setting v.dataset (Looks c)
+head_fits v w Idle c s name f = f.0
+head_fits v w (Writing k r g) c s name f = absurd f
+head_fits v w (Patching u r) c s name f = absurd f
+head_fits v w (Reading r) c s name f = absurd f
 
 -- The status of a HEAD is that of a look.
-pub head_status : (start : Start) (h : History) (seat : ℕ) (t : Target) (s : ℕ) (name : Option (List ℕ)) → IsLegal start ((At seat (Head t), Status s name) ∷ h)
-    → s ≡ status_of start.setting (dataset_after start.setting h) (Looks t)
-head_status start h seat t s name legal = go (fits_phase start h seat (Head t) (Status s name) legal.1) where
-  go : (Status s name ≡ Refused BadSeat) ⊎ FitsSeat (view_of start h).totals (seat_view start.setting (phase_of h seat)) (Head t) (Status s name)
-      → s ≡ status_of start.setting (dataset_after start.setting h) (Looks t)
+pub head_status : (start : Start) (h : History) (seat : ℕ) (c : Scope) (s : ℕ) (name : Option (List ℕ)) → IsLegal start ((At seat (Head c), Status s name) ∷ h)
+    → s ≡ status_of start.setting (dataset_after start.setting h) (Looks c)
+head_status start h seat c s name legal = go (fits_phase start h seat (Head c) (Status s name) legal.1) where
+  go : (Status s name ≡ Refused BadSeat) ⊎ FitsSeat (view_of start h).totals (seat_view start.setting (phase_of h seat)) (Head c) (Status s name)
+      → s ≡ status_of start.setting (dataset_after start.setting h) (Looks c)
   go (inl e) = absurd (cc)
-  go (inr k) = head_fits (view_of start h).totals start.setting (phase_of h seat) t s name k
+  go (inr k) = head_fits (view_of start h).totals start.setting (phase_of h seat) c s name k
 
 -- a read begins where the seat is idle
-record Begins (v : Totals) (p : Phase OpenRead) (t : Target) (s : ℕ) : Type 0 where
+record Begins (v : Totals) (p : Phase OpenRead) (c : Scope) (s : ℕ) : Type 0 where
   pub idle : p ≡ Idle
-  pub status : s ≡ status_of v.setting v.dataset (Reads t)
+  pub status : s ≡ status_of v.setting v.dataset (Reads c)
 
-pin_fits : (v : Totals) (w : Setting) (p : Phase OpenRead) (t : Target) (s : ℕ) → FitsSeat v (seat_view w p) (Pin t) (Pinned s) → Begins v p t s
-pin_fits v w Idle t s f = record { idle = refl; status = f }
-pin_fits v w (Writing k r g) t s f = absurd f
-pin_fits v w (Patching u r) t s f = absurd f
-pin_fits v w (Reading r) t s f = absurd f
+pin_fits : (v : Totals) (w : Setting) (p : Phase OpenRead) (c : Scope) (s : ℕ) → FitsSeat v (seat_view w p) (Pin c) (Pinned s) → Begins v p c s
+pin_fits v w Idle c s f = record { idle = refl; status = f }
+pin_fits v w (Writing k r g) c s f = absurd f
+pin_fits v w (Patching u r) c s f = absurd f
+pin_fits v w (Reading r) c s f = absurd f
 
-pin_begins : (start : Start) (h : History) (seat : ℕ) (t : Target) (s : ℕ) → IsLegal start ((At seat (Pin t), Pinned s) ∷ h)
-    → Begins (view_of start h).totals (phase_of h seat) t s
-pin_begins start h seat t s legal = go (fits_phase start h seat (Pin t) (Pinned s) legal.1) where
-  go : (Pinned s ≡ Refused BadSeat) ⊎ FitsSeat (view_of start h).totals (seat_view start.setting (phase_of h seat)) (Pin t) (Pinned s)
-      → Begins (view_of start h).totals (phase_of h seat) t s
+pin_begins : (start : Start) (h : History) (seat : ℕ) (c : Scope) (s : ℕ) → IsLegal start ((At seat (Pin c), Pinned s) ∷ h)
+    → Begins (view_of start h).totals (phase_of h seat) c s
+pin_begins start h seat c s legal = go (fits_phase start h seat (Pin c) (Pinned s) legal.1) where
+  go : (Pinned s ≡ Refused BadSeat) ⊎ FitsSeat (view_of start h).totals (seat_view start.setting (phase_of h seat)) (Pin c) (Pinned s)
+      → Begins (view_of start h).totals (phase_of h seat) c s
   go (inl e) = absurd (cc)
-  go (inr k) = pin_fits (view_of start h).totals start.setting (phase_of h seat) t s k
+  go (inr k) = pin_fits (view_of start h).totals start.setting (phase_of h seat) c s k
 
 -- The status of a GET is that of a read.
-pub pin_status : (start : Start) (h : History) (seat : ℕ) (t : Target) (s : ℕ) → IsLegal start ((At seat (Pin t), Pinned s) ∷ h)
-    → s ≡ status_of start.setting (dataset_after start.setting h) (Reads t)
-pin_status start h seat t s legal = (pin_begins start h seat t s legal).status
+pub pin_status : (start : Start) (h : History) (seat : ℕ) (c : Scope) (s : ℕ) → IsLegal start ((At seat (Pin c), Pinned s) ∷ h)
+    → s ≡ status_of start.setting (dataset_after start.setting h) (Reads c)
+pin_status start h seat c s legal = (pin_begins start h seat c s legal).status
 
 -- The seat was idle.
-pub pin_idle : (start : Start) (h : History) (seat : ℕ) (t : Target) (s : ℕ) → IsLegal start ((At seat (Pin t), Pinned s) ∷ h) → phase_of h seat ≡ Idle
-pin_idle start h seat t s legal = (pin_begins start h seat t s legal).idle
+pub pin_idle : (start : Start) (h : History) (seat : ℕ) (c : Scope) (s : ℕ) → IsLegal start ((At seat (Pin c), Pinned s) ∷ h) → phase_of h seat ≡ Idle
+pin_idle start h seat c s legal = (pin_begins start h seat c s legal).idle

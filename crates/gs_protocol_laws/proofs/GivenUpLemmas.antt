@@ -63,8 +63,8 @@ opened_so : (v : Totals) (w : Setting) (h : History) (p : Phase OpenRead) (actio
 opened_so v w h Idle (Open k) r f = record { idle = refl; opened = tt; nothing = refl }
 opened_so v w h Idle (OpenPatch t) r f = record { idle = refl; opened = tt; nothing = refl }
 opened_so v w h Idle (Delete t) r f = absurd f
-opened_so v w h Idle (Head t) r f = absurd f
-opened_so v w h Idle (Pin t) r f = absurd f
+opened_so v w h Idle (Head c) r f = absurd f
+opened_so v w h Idle (Pin c) r f = absurd f
 opened_so v w h (Writing k n g) (Stage ts) r f = absurd f
 opened_so v w h (Writing k n g) Commit r f = absurd f
 opened_so v w h (Writing k n g) Cancel r f = absurd f

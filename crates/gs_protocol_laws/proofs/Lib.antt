@@ -3,6 +3,8 @@ pub mod FitLemmas
 pub mod ReadLemmas
 pub mod ReadBackLemmas
 pub mod UnchangedLemmas
+pub mod DatasetLineLemmas
+pub mod AllGraphsLemmas
 pub mod AlikeLemmas
 pub mod GivenUpLemmas
 pub mod UploadLemmas

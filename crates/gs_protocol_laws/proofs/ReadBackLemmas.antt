@@ -4,6 +4,8 @@ use Rattle.std.specs.List.{concat, cons_option}
 use Rattle.gs_model.specs.Graphs.{Graph, lines_of}
 use Rattle.gs_term.specs.declared.names.Target.{Target}
 use Rattle.gs_term.specs.declared.names.Target.TheVariants.{Named}
+use Rattle.gs_event.specs.declared.events.Scope.{Scope}
+use Rattle.gs_event.specs.declared.events.Scope.TheVariants.{One}
 use Rattle.gs_event.specs.declared.events.Action.TheVariants.{Pin}
 use Rattle.gs_event.specs.declared.events.Event.{Event}
 use Rattle.gs_event.specs.declared.events.Event.TheVariants.{Seat as At}
@@ -39,7 +41,7 @@ spares start t before (x ∷ later) legal s =
     ∙ spares start t before later legal.0 s.0
 
 -- the target's graph, after a write that took effect and events that spare it
-left_after : (start : Start) (before : History) (x : Event × Answer) (q : Operation) (t : Target) (o : Option Graph) (later : History) → IsLegal start (later ++ x ∷ before)
+pub left_after : (start : Start) (before : History) (x : Event × Answer) (q : Operation) (t : Target) (o : Option Graph) (later : History) → IsLegal start (later ++ x ∷ before)
     → IsWrite before x q → SpareSince start.setting t (x ∷ before) later → graph_at (after start.setting (dataset_after start.setting before) q) t ≡ o
     → graph_at (dataset_after start.setting (later ++ x ∷ before)) t ≡ o
 left_after start before x q t o later legal d s e =
@@ -48,9 +50,9 @@ left_after start before x q t o later legal d s e =
 -- what is shown of a target by its graph
 shown : (start : Start) (h : History) (t : Target) (o : Option Graph) → graph_at (dataset_after start.setting h) t ≡ o → Shows start h t (cond (is_some o) 200 404) (lines_if o)
 shown start h t o e = record {
-  head = λ seat s name legal. head_status start h seat t s name legal ∙ ap (λ p. cond (is_some p) 200 404) e;
-  get = λ seat s legal. pin_status start h seat t s legal ∙ ap (λ p. cond (is_some p) 200 404) e;
-  given = λ seat whole bytes legal g. gets_give start h whole seat t bytes legal g ∙ ap (λ p. concat (lines_if p)) e;
+  head = λ seat s name legal. head_status start h seat (One t) s name legal ∙ ap (λ p. cond (is_some p) 200 404) e;
+  get = λ seat s legal. pin_status start h seat (One t) s legal ∙ ap (λ p. cond (is_some p) 200 404) e;
+  given = λ seat whole bytes legal g. gets_give start h whole seat (One t) bytes legal g ∙ ap (λ p. concat (lines_if p)) e;
 }
 
 -- where a write that takes effect makes g the target's graph
@@ -92,12 +94,12 @@ deletes_back start before x t later legal d s =
     (delete_own start.setting (dataset_after start.setting before) t (took_effect start before x (Deletes t) sound d.asks d.success)))
 
 -- what went before the pin of a whole GET is legal
-pinned_legal : (start : Start) (before whole : History) (seat : ℕ) (t : Target) (bytes : List ℕ) → IsLegal start whole → IsWholeGet seat t before whole bytes → IsLegal start before
-pinned_legal start before whole seat t bytes legal g =
-    (legal_before start ((At seat (Pin t), Pinned 200) ∷ before) g.since (subst (IsLegal start) g.events legal).0).0
+pub pinned_legal : (start : Start) (before whole : History) (seat : ℕ) (c : Scope) (bytes : List ℕ) → IsLegal start whole → IsWholeGet seat c before whole bytes → IsLegal start before
+pinned_legal start before whole seat c bytes legal g =
+    (legal_before start ((At seat (Pin c), Pinned 200) ∷ before) g.since (subst (IsLegal start) g.events legal).0).0
 
 pub gets_agree : GetsAgree
 gets_agree start before later whole whole_later seat seat_later t bytes bytes_later legal legal_later s g g_later =
-    gets_give start (later ++ before) whole_later seat_later t bytes_later legal_later g_later
-    ∙ ap (λ p. concat (lines_if p)) (spares start t before later (pinned_legal start (later ++ before) whole_later seat_later t bytes_later legal_later g_later) s)
-    ∙ sym (gets_give start before whole seat t bytes legal g)
+    gets_give start (later ++ before) whole_later seat_later (One t) bytes_later legal_later g_later
+    ∙ ap (λ p. concat (lines_if p)) (spares start t before later (pinned_legal start (later ++ before) whole_later seat_later (One t) bytes_later legal_later g_later) s)
+    ∙ sym (gets_give start before whole seat (One t) bytes legal g)

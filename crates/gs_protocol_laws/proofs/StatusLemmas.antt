@@ -2,8 +2,9 @@
 use Rattle.std.proofs.Common.{◌≡◌, ◌⊎◌, inl, inr, ◌<◌, ℕ, nat_eq, Bool, true, false, ◌||◌, cond, List, ◌∷◌, Option, Some, None, IfSome, refl, sym, ap, ◌∙◌, subst}
 use Rattle.gs_model.specs.Graphs.{Graph}
 use Rattle.gs_model.specs.declared.refusals.Refusal.TheVariants.{WrongPhase, BadSeat}
-use Rattle.gs_term.specs.declared.names.Target.{Target}
 use Rattle.gs_term.specs.declared.names.Target.TheVariants.{Named}
+use Rattle.gs_event.specs.declared.events.Scope.{Scope}
+use Rattle.gs_event.specs.declared.events.Scope.TheVariants.{One, All}
 use Rattle.gs_event.specs.declared.events.Action.{Action}
 use Rattle.gs_event.specs.declared.events.Action.TheVariants.{Open, OpenPatch, Stage, Commit, CommitPatch, Delete, Head, Pin, Piece, Cancel}
 use Rattle.gs_event.specs.declared.events.Event.{Event}
@@ -24,15 +25,15 @@ use Rattle.gs_protocol_laws.specs.Statuses.{head_status, IdleHeadsAreTold, IdleP
 use Rattle.gs_protocol_laws.proofs.FitLemmas.{fits_phase, fits_there, there_fits, event_tells, took_effect, name_made}
 
 -- the answers at an idle seat
-head_only : (v : Totals) (t : Target) (a : Answer) → FitsSeat v Idle (Head t) a → a ≡ Status (status_of v.setting v.dataset (Looks t)) None
-head_only v t (Status s name) f = λ i. Status (f.0 i) (f.1 i)
-head_only v t (Refused WrongPhase) f = absurd (cc)
-head_only v t a f = absurd f
+head_only : (v : Totals) (c : Scope) (a : Answer) → FitsSeat v Idle (Head c) a → a ≡ Status (status_of v.setting v.dataset (Looks c)) None
+head_only v c (Status s name) f = λ i. Status (f.0 i) (f.1 i)
+head_only v c (Refused WrongPhase) f = absurd (cc)
+head_only v c a f = absurd f
 
-pin_only : (v : Totals) (t : Target) (a : Answer) → FitsSeat v Idle (Pin t) a → a ≡ Pinned (status_of v.setting v.dataset (Looks t))
-pin_only v t (Pinned s) f = ap Pinned f
-pin_only v t (Refused WrongPhase) f = absurd (cc)
-pin_only v t a f = absurd f
+pin_only : (v : Totals) (c : Scope) (a : Answer) → FitsSeat v Idle (Pin c) a → a ≡ Pinned (status_of v.setting v.dataset (Looks c))
+pin_only v c (Pinned s) f = ap Pinned f
+pin_only v c (Refused WrongPhase) f = absurd (cc)
+pin_only v c a f = absurd f
 
 idle_fits : (start : Start) (h : History) (seat : ℕ) (action : Action) (a : Answer) → seat < start.seats → phase_of h seat ≡ Idle → IsLegal start ((At seat action, a) ∷ h)
     → FitsSeat (view_of start h).totals Idle action a
@@ -45,17 +46,17 @@ idle_legal start h seat action a sound there idle f =
     (sound, there_fits start h seat action a there (subst (λ p. FitsSeat (view_of start h).totals (seat_view start.setting p) action a) (sym idle) f))
 
 pub idle_heads : IdleHeadsAreTold
-idle_heads start h seat t a sound there idle = (
-  λ legal. head_only (view_of start h).totals t a (idle_fits start h seat (Head t) a there idle legal),
-  λ is. subst (λ b. IsLegal start ((At seat (Head t), b) ∷ h)) (sym is)
-      (idle_legal start h seat (Head t) (Status (head_status start h t) None) sound there idle (refl, refl)),
+idle_heads start h seat c a sound there idle = (
+  λ legal. head_only (view_of start h).totals c a (idle_fits start h seat (Head c) a there idle legal),
+  λ is. subst (λ b. IsLegal start ((At seat (Head c), b) ∷ h)) (sym is)
+      (idle_legal start h seat (Head c) (Status (head_status start h c) None) sound there idle (refl, refl)),
 )
 
 pub idle_pins : IdlePinsAreTold
-idle_pins start h seat t a sound there idle = (
-  λ legal. pin_only (view_of start h).totals t a (idle_fits start h seat (Pin t) a there idle legal),
-  λ is. subst (λ b. IsLegal start ((At seat (Pin t), b) ∷ h)) (sym is)
-      (idle_legal start h seat (Pin t) (Pinned (head_status start h t)) sound there idle refl),
+idle_pins start h seat c a sound there idle = (
+  λ legal. pin_only (view_of start h).totals c a (idle_fits start h seat (Pin c) a there idle legal),
+  λ is. subst (λ b. IsLegal start ((At seat (Pin c), b) ∷ h)) (sym is)
+      (idle_legal start h seat (Pin c) (Pinned (head_status start h c)) sound there idle refl),
 )
 
 -- what a status tells of the one that a HEAD of its target had before
@@ -87,8 +88,10 @@ tells_one w m (Posts t g) = stored_tells (is_within w.limits (with_graph m t (un
 tells_one w m (Creates r g) = stored_tells (is_within w.limits (with_graph m (Named (new_name w.base m r)) g)) (is_there m (Named (new_name w.base m r)))
 tells_one w m (Patches t ops) = changed_tells (is_within w.limits (with_graph m t (patched (graph_at m t) ops))) (is_there m t)
 tells_one w m (Deletes t) = removed_tells (is_there m t)
-tells_one w m (Looks t) = looked_tells (is_there m t)
-tells_one w m (Reads t) = looked_tells (is_there m t)
+tells_one w m (Looks (One t)) = looked_tells (is_there m t)
+tells_one w m (Looks All) = tt
+tells_one w m (Reads (One t)) = looked_tells (is_there m t)
+tells_one w m (Reads All) = tt
 
 -- so it is in a history
 tells_before : (status head : ℕ) → told_of status ≡ Some head → TellsBefore status head
@@ -177,12 +180,12 @@ one_named w m q n e = absurd (cc)
 asks_phase : (v : Totals) (w : Setting) (p : Phase OpenRead) (action : Action) (a : Answer) (n : List ℕ) → FitsSeat v (seat_view w p) action a → name_answered a ≡ Some n
     → (q : Operation) × (operation_of p action a ≡ Some q)
 asks_phase v w Idle (Delete t) (Status s name) n f e = (Deletes t, refl)
-asks_phase v w Idle (Head t) (Status s name) n f e = (Looks t, refl)
+asks_phase v w Idle (Head c) (Status s name) n f e = (Looks c, refl)
 asks_phase v w (Writing k r g) Commit (Status s name) n f e = (write_of k r g, refl)
 asks_phase v w (Patching t r) (CommitPatch ops) (Status s name) n f e = (Patches t ops.items, refl)
 asks_phase v w Idle (Open k) (Status s name) n f e = absurd f
 asks_phase v w Idle (OpenPatch t) (Status s name) n f e = absurd f
-asks_phase v w Idle (Pin t) (Status s name) n f e = absurd f
+asks_phase v w Idle (Pin c) (Status s name) n f e = absurd f
 asks_phase v w (Writing k r g) (Stage ts) (Status s name) n f e = absurd f
 asks_phase v w (Writing k r g) Cancel (Status s name) n f e = absurd f
 asks_phase v w (Patching t r) Cancel (Status s name) n f e = absurd f

@@ -5,6 +5,7 @@ use Rattle.std.specs.List.{cons_option}
 use Rattle.gs_term.specs.Names.{name_cmp}
 use Rattle.gs_term.specs.declared.names.Target.{Target}
 use Rattle.gs_term.specs.declared.names.Target.TheVariants.{Default, Named}
+use Rattle.gs_event.specs.declared.events.Scope.TheVariants.{One}
 use Rattle.gs_event.specs.declared.events.Action.TheVariants.{Head}
 use Rattle.gs_event.specs.declared.events.Event.TheVariants.{Seat as At}
 use Rattle.gs_event.specs.declared.answers.Answer.TheVariants.{Status}
@@ -39,10 +40,10 @@ unwritten start h t legal s =
 
 pub heads_agree : HeadsAgree
 heads_agree start before between seat seat_later s s_later t name name_later legal spared =
-    let first = (At seat (Head t), Status s name) ∷ before in
+    let first = (At seat (Head (One t)), Status s name) ∷ before in
     let sound : IsLegal start first = legal_before start first between legal.0 in
-    let status : s ≡ status_of start.setting (dataset_after start.setting before) (Looks t) = head_status start before seat t s name sound in
-    head_status start (between ++ first) seat_later t s_later name_later legal
+    let status : s ≡ status_of start.setting (dataset_after start.setting before) (Looks (One t)) = head_status start before seat (One t) s name sound in
+    head_status start (between ++ first) seat_later (One t) s_later name_later legal
     ∙ ap (λ o. cond (is_some o) 200 404) (spares start t first between legal.0 spared)
-    ∙ ap (λ m. cond (is_some (graph_at m t)) 200 404) (only_writes start before (At seat (Head t), Status s name) sound (ap is_success status ∙ asked_only (is_some (graph_at (dataset_after start.setting before) t))))
+    ∙ ap (λ m. cond (is_some (graph_at m t)) 200 404) (only_writes start before (At seat (Head (One t)), Status s name) sound (ap is_success status ∙ asked_only (is_some (graph_at (dataset_after start.setting before) t))))
     ∙ sym status

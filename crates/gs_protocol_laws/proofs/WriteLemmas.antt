@@ -87,8 +87,8 @@ after_other w m (Deletes u) t spared =
       | true ↦ λ k. without_other m u t (k refl)
       | false ↦ λ k. refl
     ] (λ s e. spared (s, e))
-after_other w m (Looks u) t spared = refl
-after_other w m (Reads u) t spared = refl
+after_other w m (Looks c) t spared = refl
+after_other w m (Reads c) t spared = refl
 
 -- what each write leaves at its own target, where it took effect
 
@@ -154,8 +154,8 @@ after_same w m (Deletes t) e =
       | true ↦ λ k. absurd (cc)
       | false ↦ λ k. refl
     ] e
-after_same w m (Looks t) e = refl
-after_same w m (Reads t) e = refl
+after_same w m (Looks c) e = refl
+after_same w m (Reads c) e = refl
 
 -- the later operations leave the target's graph
 spared : (w : Setting) (t : Target) (earlier later : List Operation) → SpareTarget w t earlier later → graph_at (after_all w (later ++ earlier)) t ≡ graph_at (after_all w earlier) t

@@ -4,6 +4,7 @@ use Rattle.std.specs.List.{concat}
 use Rattle.gs_model.specs.Graphs.{Graph, lines_of}
 use Rattle.gs_term.specs.declared.names.Target.{Target}
 use Rattle.gs_term.specs.declared.names.Target.TheVariants.{Named}
+use Rattle.gs_event.specs.declared.events.Scope.TheVariants.{One}
 use Rattle.gs_event.specs.declared.events.Action.TheVariants.{Head, Pin}
 use Rattle.gs_event.specs.declared.events.Event.{Event}
 use Rattle.gs_event.specs.declared.events.Event.TheVariants.{Seat as At}
@@ -34,9 +35,9 @@ SpareSince w t before (x ∷ later) = SpareSince w t before later
 -- After this history a HEAD and a GET of the target are answered with this status, and a GET is given these lines and nothing else. It
 -- says which answer is legal, not that one comes.
 pub record Shows (start : Start) (h : History) (t : Target) (status : ℕ) (lines : List (List ℕ)) : Type 0 where
-  pub head : (seat s : ℕ) (name : Option (List ℕ)) → IsLegal start ((At seat (Head t), Status s name) ∷ h) → s ≡ status
-  pub get : (seat s : ℕ) → IsLegal start ((At seat (Pin t), Pinned s) ∷ h) → s ≡ status
-  pub given : (seat : ℕ) (whole : History) (bytes : List ℕ) → IsLegal start whole → IsWholeGet seat t h whole bytes → bytes ≡ concat lines
+  pub head : (seat s : ℕ) (name : Option (List ℕ)) → IsLegal start ((At seat (Head (One t)), Status s name) ∷ h) → s ≡ status
+  pub get : (seat s : ℕ) → IsLegal start ((At seat (Pin (One t)), Pinned s) ∷ h) → s ≡ status
+  pub given : (seat : ℕ) (whole : History) (bytes : List ℕ) → IsLegal start whole → IsWholeGet seat (One t) h whole bytes → bytes ≡ concat lines
 
 -- Where the event did this write, and no later one wrote the target, that is what is shown of it.
 abbrev pub IsReadBack : Start → History → Event × Answer → Operation → Target → ℕ → List (List ℕ) → Type 0
@@ -77,4 +78,4 @@ DeletesAreReadBack = (start : Start) (before : History) (x : Event × Answer) (t
 abbrev pub GetsAgree : Type 0
 GetsAgree = (start : Start) (before later whole whole_later : History) (seat seat_later : ℕ) (t : Target) (bytes bytes_later : List ℕ)
     → IsLegal start whole → IsLegal start whole_later → SpareSince start.setting t before later
-    → IsWholeGet seat t before whole bytes → IsWholeGet seat_later t (later ++ before) whole_later bytes_later → bytes_later ≡ bytes
+    → IsWholeGet seat (One t) before whole bytes → IsWholeGet seat_later (One t) (later ++ before) whole_later bytes_later → bytes_later ≡ bytes

@@ -2,14 +2,14 @@
 use Rattle.std.specs.Prelude.{◌≡◌, ℕ, ◌+◌, nat_eq, Bool, true, false, cond, List, [], ◌∷◌, ◌++◌, take, Vec}
 use Rattle.std.specs.List.{concat}
 use Rattle.std.specs.declared.alloc.Global.{Global}
-use Rattle.gs_term.specs.declared.names.Target.{Target}
+use Rattle.gs_event.specs.declared.events.Scope.{Scope}
 use Rattle.gs_event.specs.declared.events.Action.{Action}
 use Rattle.gs_event.specs.declared.events.Action.TheVariants.{Pin, Piece, Cancel}
 use Rattle.gs_event.specs.declared.events.Event.{Event}
 use Rattle.gs_event.specs.declared.events.Event.TheVariants.{Seat as At, Reclaim}
 use Rattle.gs_event.specs.declared.answers.Answer.{Answer}
 use Rattle.gs_event.specs.declared.answers.Answer.TheVariants.{Pinned, Lines, Cancelled}
-use Rattle.gs_event.specs.Datasets.{lines_at}
+use Rattle.gs_event.specs.Datasets.{lines_in}
 use Rattle.gs_event.specs.Histories.{History, Start, IsLegal, dataset_after}
 
 -- an answer ends the read of its seat: it has the last piece, or the read was given up
@@ -43,20 +43,20 @@ abbrev pub bytes_to : ℕ → History → List ℕ
 bytes_to seat [] = []
 bytes_to seat (x ∷ before) = bytes_to seat before ++ event_bytes seat x.0 x.1
 
--- A whole GET: after the events before, the seat pinned the target, and was answered 200; it was given pieces since, among events
+-- A whole GET: after the events before, the seat pinned a graph, or all of them, and was answered 200; it was given pieces since, among events
 -- of other seats, and just now the last of them. These are their bytes.
-pub record IsWholeGet (seat : ℕ) (t : Target) (before whole : History) (bytes : List ℕ) : Type 0 where
+pub record IsWholeGet (seat : ℕ) (c : Scope) (before whole : History) (bytes : List ℕ) : Type 0 where
   pub since : History
   pub count : ℕ
   pub piece : Vec ℕ Global
-  pub events : whole ≡ (At seat (Piece count), Lines piece true) ∷ (since ++ (At seat (Pin t), Pinned 200) ∷ before)
+  pub events : whole ≡ (At seat (Piece count), Lines piece true) ∷ (since ++ (At seat (Pin c), Pinned 200) ∷ before)
   pub goes_on : LeaveRead seat since
   pub given : bytes ≡ bytes_to seat ((At seat (Piece count), Lines piece true) ∷ since)
 
--- A whole GET is given the lines that its target had when it was pinned, whatever other seats did since.
+-- A whole GET is given the lines that its graph, or all graphs, had when it was pinned, whatever other seats did since.
 abbrev pub GetsGiveTheirLines : Type 0
-GetsGiveTheirLines = (start : Start) (before whole : History) (seat : ℕ) (t : Target) (bytes : List ℕ) → IsLegal start whole
-    → IsWholeGet seat t before whole bytes → bytes ≡ concat (lines_at (dataset_after start.setting before) t)
+GetsGiveTheirLines = (start : Start) (before whole : History) (seat : ℕ) (c : Scope) (bytes : List ℕ) → IsLegal start whole
+    → IsWholeGet seat c before whole bytes → bytes ≡ concat (lines_in (dataset_after start.setting before) c)
 
 -- how many lines an action asked for, where it was answered with lines
 abbrev pub lines_asked : Action → Answer → ℕ
@@ -73,9 +73,9 @@ abbrev pub lines_to : ℕ → History → ℕ
 lines_to seat [] = 0
 lines_to seat (x ∷ before) = lines_to seat before + event_lines seat x.0 x.1
 
--- A GET that has had only some of its pieces, as one that is cut off, was given the first lines that its target had when it was
--- pinned, in their order, and nothing else: as many as its pieces asked for.
+-- A GET that has had only some of its pieces, as one that is cut off, was given the first of the lines that it would
+-- have been given whole, in their order, and nothing else: as many as its pieces asked for.
 abbrev pub CutGetsGiveTheFirst : Type 0
-CutGetsGiveTheFirst = (start : Start) (before since : History) (seat : ℕ) (t : Target) → IsLegal start (since ++ (At seat (Pin t), Pinned 200) ∷ before)
+CutGetsGiveTheFirst = (start : Start) (before since : History) (seat : ℕ) (c : Scope) → IsLegal start (since ++ (At seat (Pin c), Pinned 200) ∷ before)
     → LeaveRead seat since
-    → bytes_to seat since ≡ concat (take (lines_to seat since) (lines_at (dataset_after start.setting before) t))
+    → bytes_to seat since ≡ concat (take (lines_to seat since) (lines_in (dataset_after start.setting before) c))

@@ -1,7 +1,8 @@
 -- What a status tells of the graphs before it (SPARQL 1.1 Graph Store HTTP Protocol, section 5).
 use Rattle.std.specs.Prelude.{◌≡◌, ◌↔◌, ◌<◌, ℕ, List, ◌∷◌, Option, Some, None}
 use Rattle.gs_model.specs.Graphs.{Graph}
-use Rattle.gs_term.specs.declared.names.Target.{Target}
+use Rattle.gs_event.specs.declared.events.Scope.{Scope}
+use Rattle.gs_event.specs.declared.events.Scope.TheVariants.{One}
 use Rattle.gs_event.specs.declared.events.Action.TheVariants.{Head, Pin}
 use Rattle.gs_event.specs.declared.events.Event.{Event}
 use Rattle.gs_event.specs.declared.events.Event.TheVariants.{Seat as At}
@@ -13,25 +14,25 @@ use Rattle.gs_event.specs.Phases.{Idle}
 use Rattle.gs_event.specs.Histories.{History, Start, IsLegal, phase_of, dataset_after, operation_by}
 use Rattle.gs_protocol_laws.specs.ReadBack.{IsWrite, name_answered}
 
--- the status of a HEAD of the target after these events: 200 or 404
-abbrev pub head_status : Start → History → Target → ℕ
-head_status start h t = status_of start.setting (dataset_after start.setting h) (Looks t)
+-- the status of a HEAD of a graph, or of all of them, after these events: 200 or 404
+abbrev pub head_status : Start → History → Scope → ℕ
+head_status start h c = status_of start.setting (dataset_after start.setting h) (Looks c)
 
 -- At an idle seat the one legal answer to a HEAD is that status, and no name.
 abbrev pub IdleHeadsAreTold : Type 0
-IdleHeadsAreTold = (start : Start) (h : History) (seat : ℕ) (t : Target) (a : Answer) → IsLegal start h → seat < start.seats → phase_of h seat ≡ Idle
-    → (IsLegal start ((At seat (Head t), a) ∷ h) ↔ (a ≡ Status (head_status start h t) None))
+IdleHeadsAreTold = (start : Start) (h : History) (seat : ℕ) (c : Scope) (a : Answer) → IsLegal start h → seat < start.seats → phase_of h seat ≡ Idle
+    → (IsLegal start ((At seat (Head c), a) ∷ h) ↔ (a ≡ Status (head_status start h c) None))
 
 -- And to the pin of a GET it is the same status.
 abbrev pub IdlePinsAreTold : Type 0
-IdlePinsAreTold = (start : Start) (h : History) (seat : ℕ) (t : Target) (a : Answer) → IsLegal start h → seat < start.seats → phase_of h seat ≡ Idle
-    → (IsLegal start ((At seat (Pin t), a) ∷ h) ↔ (a ≡ Pinned (head_status start h t)))
+IdlePinsAreTold = (start : Start) (h : History) (seat : ℕ) (c : Scope) (a : Answer) → IsLegal start h → seat < start.seats → phase_of h seat ≡ Idle
+    → (IsLegal start ((At seat (Pin c), a) ∷ h) ↔ (a ≡ Pinned (head_status start h c)))
 
 -- Where an event that asked anything was answered this status, a HEAD of its target before it had that one.
 abbrev pub TellsBefore : ℕ → ℕ → Type 0
 TellsBefore status head = (start : Start) (before : History) (e : Event) (q : Operation) (name : Option (List ℕ)) → IsLegal start ((e, Status status name) ∷ before)
     → operation_by before e (Status status name) ≡ Some q
-    → head_status start before (operation_target start.setting (dataset_after start.setting before) q) ≡ head
+    → head_status start before (One (operation_target start.setting (dataset_after start.setting before) q)) ≡ head
 
 -- 201 tells that the graph was made: there was none.
 abbrev pub MadeGraphsWereMissing : Type 0

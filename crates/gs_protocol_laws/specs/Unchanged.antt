@@ -1,6 +1,7 @@
 -- What stays as it was where nothing was written (SPARQL 1.1 Graph Store HTTP Protocol, sections 5.2 and 5.6).
 use Rattle.std.specs.Prelude.{◌≡◌, ℕ, false, List, [], ◌∷◌, ◌++◌, Option}
 use Rattle.gs_term.specs.declared.names.Target.{Target}
+use Rattle.gs_event.specs.declared.events.Scope.TheVariants.{One}
 use Rattle.gs_event.specs.declared.events.Action.TheVariants.{Head}
 use Rattle.gs_event.specs.declared.events.Event.{Event}
 use Rattle.gs_event.specs.declared.events.Event.TheVariants.{Seat as At}
@@ -25,5 +26,5 @@ UnwrittenIsMissing = (start : Start) (h : History) (t : Target) → IsLegal star
 -- Two HEADs of a target between which nothing wrote it have one status.
 abbrev pub HeadsAgree : Type 0
 HeadsAgree = (start : Start) (before between : History) (seat seat_later s s_later : ℕ) (t : Target) (name name_later : Option (List ℕ))
-    → IsLegal start ((At seat_later (Head t), Status s_later name_later) ∷ (between ++ (At seat (Head t), Status s name) ∷ before))
-    → SpareSince start.setting t ((At seat (Head t), Status s name) ∷ before) between → s_later ≡ s
+    → IsLegal start ((At seat_later (Head (One t)), Status s_later name_later) ∷ (between ++ (At seat (Head (One t)), Status s name) ∷ before))
+    → SpareSince start.setting t ((At seat (Head (One t)), Status s name) ∷ before) between → s_later ≡ s

@@ -3,6 +3,7 @@ use Rattle.std.specs.Prelude.{◌≡◌, ℕ, true, false, List, [], ◌∷◌, 
 use Rattle.gs_model.specs.Graphs.{Graph, lines_of}
 use Rattle.gs_term.specs.declared.names.Target.{Target}
 use Rattle.gs_term.specs.declared.names.Target.TheVariants.{Named}
+use Rattle.gs_event.specs.declared.events.Scope.TheVariants.{One}
 use Rattle.gs_event.specs.declared.updates.Op.{Op}
 use Rattle.gs_event.specs.Updates.{patched}
 use Rattle.gs_event.specs.Datasets.{Dataset, graph_at, lines_at}
@@ -20,7 +21,7 @@ SpareTarget w t earlier (q ∷ later) = SpareTarget w t earlier later × (TakesE
 
 -- the target's graph is g: a GET of it is answered 200, and its lines are those of g
 pub record HasGraph (w : Setting) (m : Dataset) (t : Target) (g : Graph) : Type 0 where
-  pub status : status_of w m (Reads t) ≡ 200
+  pub status : status_of w m (Reads (One t)) ≡ 200
   pub lines : lines_at m t ≡ lines_of g
 
 -- the status of a GET of a target without a graph: the default graph is never missing
@@ -29,7 +30,7 @@ status_without t = if is_named t then 404 else 200
 
 -- the target has no line
 pub record HasNoLine (w : Setting) (m : Dataset) (t : Target) : Type 0 where
-  pub status : status_of w m (Reads t) ≡ status_without t
+  pub status : status_of w m (Reads (One t)) ≡ status_without t
   pub lines : lines_at m t ≡ []
 
 -- Where the operation took effect after the earlier ones, and none of the later ones did at the target, its graph is g.

@@ -1,12 +1,17 @@
 //! Laws of the protocol, proved: each body is empty, and the contract is the law.
 ghost use Rattle.std.specs.Prelude.{List, ℕ};
 ghost use Rattle.gs_model.specs.Triples.{RdfTriple};
+ghost use Rattle.gs_event.specs.Datasets.{Dataset};
 ghost use Rattle.gs_protocol_laws.specs.Writes.{PutsLeave, PostsLeave, CreatesLeave};
 ghost use Rattle.gs_protocol_laws.specs.Writes.{PatchesLeave, DeletesLeave, OthersLeaveAll};
 ghost use Rattle.gs_protocol_laws.specs.Reads.{GetsGiveTheirLines, CutGetsGiveTheFirst};
 ghost use Rattle.gs_protocol_laws.specs.ReadBack.{PutsAreReadBack, PostsAreReadBack, CreatesAreReadBack};
 ghost use Rattle.gs_protocol_laws.specs.ReadBack.{PatchesAreReadBack, DeletesAreReadBack, GetsAgree};
 ghost use Rattle.gs_protocol_laws.specs.Unchanged.{OnlyWritesChange, UnwrittenIsMissing, HeadsAgree};
+ghost use Rattle.gs_protocol_laws.specs.AllGraphs.{AllGetsGiveTheDataset, AllHeadsAreOk, AllPinsAreOk};
+ghost use Rattle.gs_protocol_laws.specs.AllGraphs.{AllGetsAgree, AllGetsHaveEachGraph, PutsAreInAllGets};
+ghost use Rattle.gs_protocol_laws.specs.DatasetLines.{DefaultIsFirst, NamedAreInOrder};
+ghost use Rattle.gs_protocol_laws.specs.DatasetLines.{LinesAreAsManyAsTriples};
 ghost use Rattle.gs_protocol_laws.specs.GivenUp.{OpenUploadsLeaveNothing, GivenUpUploadsLeaveNothing};
 ghost use Rattle.gs_protocol_laws.specs.Uploads.{PutUploadsAreReadBack, PostUploadsAreReadBack};
 ghost use Rattle.gs_protocol_laws.specs.Uploads.{NewUploadsAreReadBack};
@@ -28,9 +33,9 @@ pub fn writes_stay()
     ensures others { OthersLeaveAll }
 {}
 
-/// A GET is given the lines that its target had when it was pinned, whatever others write meanwhile; one
-/// that is cut off is given the first of them; and two between whose pins nothing wrote the target are given
-/// the same.
+/// A GET is given the lines that its graph had, or all graphs, when it was pinned, whatever others write
+/// meanwhile; one that is cut off is given the first of them; and two of a graph between whose pins nothing
+/// wrote it are given the same.
 pub fn gets_give_their_lines()
     ensures lines { GetsGiveTheirLines }
     ensures cut { CutGetsGiveTheFirst }
@@ -69,6 +74,28 @@ pub fn patches_and_deletes_are_read_back()
     ensures delete { WholeDeletesAreReadBack }
 {}
 
+/// A GET of all graphs is given the lines of the whole dataset as it was when it was pinned, whatever others
+/// write meanwhile. It is answered 200, and so is a HEAD. Two between whose pins nothing was written are
+/// given the same. Among its lines are those of each graph that was there, in a row: so a PUT is read back
+/// there too.
+pub fn all_graphs_are_read()
+    ensures lines { AllGetsGiveTheDataset }
+    ensures head { AllHeadsAreOk }
+    ensures get { AllPinsAreOk }
+    ensures agree { AllGetsAgree }
+    ensures graph { AllGetsHaveEachGraph }
+    ensures put { PutsAreInAllGets }
+{}
+
+/// The lines of a dataset are in order, and nothing else is among them: first those of the default graph,
+/// and then only lines of named graphs, each graph's in a row, in the order of the bytes of `<name>`. There
+/// are as many as all graphs have triples.
+pub fn lines_of_a_dataset_are_in_order()
+    ensures first { (m : Dataset) → DefaultIsFirst m }
+    ensures order { NamedAreInOrder }
+    ensures count { LinesAreAsManyAsTriples }
+{}
+
 /// An upload or a patch that was given up, or was not committed yet, leaves nothing: the points are those of
 /// the history without it.
 pub fn given_up_uploads_leave_nothing()
@@ -76,8 +103,8 @@ pub fn given_up_uploads_leave_nothing()
     ensures given_up { GivenUpUploadsLeaveNothing }
 {}
 
-/// At an idle seat a HEAD has one legal answer: 200 where its target is there and else 404, and no name. A
-/// GET is pinned with that status. Neither is refused.
+/// At an idle seat a HEAD has one legal answer: 200 where its graph is there and else 404, and no name. Of
+/// all graphs it is 200. A GET is pinned with that status. Neither is refused.
 pub fn idle_seats_are_told()
     ensures head { IdleHeadsAreTold }
     ensures get { IdlePinsAreTold }

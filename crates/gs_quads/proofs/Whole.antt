@@ -30,7 +30,7 @@ use Rattle.gs_records.specs.Order.{has_number, AreListed, graph_of_number, graph
 use Rattle.gs_records.proofs.Ordering.{listed_in_order}
 use Rattle.gs_quads.specs.Places.{target_at, root_at, version_numbers, as_places, record_places, all_places, quad_at, quads_left}
 use Rattle.gs_quads.specs.Pieces.{AreGraphs}
-use Rattle.gs_quads.specs.Quads.{named_lines, quads_of}
+use Rattle.gs_event.specs.Datasets.{named_lines, quads_of}
 use Rattle.gs_quads.proofs.Numbers.{numbers_had}
 
 -- the lines of places of one record

@@ -18,7 +18,7 @@ use Rattle.gs_records.specs.Order.{entry_of, has_number, age_at, AreListed, grap
 use Rattle.gs_quads.specs.declared.pieces.QuadPiece.{QuadPiece}
 use Rattle.gs_quads.specs.Places.{Place, root_at, quads_left}
 use Rattle.gs_quads.specs.Pieces.{AreGraphs, IsQuadPlace, IsQuadPiece}
-use Rattle.gs_quads.specs.Quads.{quads_of}
+use Rattle.gs_event.specs.Datasets.{quads_of}
 
 -- from the beginning on, the lines of a version are those of its dataset
 abbrev pub AllAreTheDatasets : Type 0

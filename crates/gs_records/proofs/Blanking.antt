@@ -1,5 +1,5 @@
 -- A number has no entry any more.
-use Rattle.std.proofs.Common.{◌≡◌, ◌≢◌, ℕ, ◌+◌, ◌≤◌, false, ◌&&◌, ◌==◌, not, nat_lt, length, slice_set, refl, sym, ap, ◌∙◌, inl, inr, arith, get_or-set_same, get_or-set_other, true≢false}
+use Rattle.std.proofs.Common.{◌≡◌, ◌≢◌, ℕ, ◌+◌, ◌<◌, ◌≤◌, true, ◌&&◌, ◌==◌, not, length, slice_set, refl, sym, ap, ◌∙◌, inl, inr, arith, get_or-set_same, get_or-set_other}
 use Rattle.std.proofs.lemmas.Bool.{cases_eq, cases_lt, lt-ltb, ne_eqb}
 use Rattle.std.proofs.lemmas.List.{length-set, get_or_past}
 use Rattle.std.proofs.lemmas.Map.Views.{exact_unsigned_eq, any-filter_same}
@@ -10,18 +10,15 @@ use Rattle.gs_records.specs.Stored.{is_made, ListsMade}
 use Rattle.gs_records.specs.Sweeps.{Blanks}
 use Rattle.gs_records.proofs.Listing.{same_number}
 
--- what is not made has no birth
-not_made : (b : ℕ) → nat_lt 0 b ≡ false → b ≡ 0
-not_made b e = elim (cases_lt 0 b) [
-  | inl some ↦ absurd (true≢false (sym (lt-ltb 0 b some) ∙ e))
-  | inr none ↦ omega (arith, none)
-]
+-- what a commit made is listed
+pub listed_made : (x : Indexed) (n : ℕ) → ListsMade x → 0 < (entry_at x.entries n).birth → is_listed n x.listed ≡ true
+listed_made x n lists made = lists n ∙ lt-ltb 0 (entry_at x.entries n).birth made
 
--- a number that is not listed has none
-pub blank_same : (x : Indexed) (n : ℕ) → ListsMade x → is_listed n x.listed ≡ false → Blanks x x n
-blank_same x n lists off = record {
+-- what no commit made has none
+pub blank_same : (x : Indexed) (n : ℕ) → ListsMade x → (entry_at x.entries n).birth ≡ 0 → Blanks x x n
+blank_same x n lists none = record {
   many = refl;
-  blank = not_made (entry_at x.entries n).birth (sym (lists n) ∙ off);
+  blank = none;
   others = λ m ne. refl;
   lists = lists;
   spare = omega arith;

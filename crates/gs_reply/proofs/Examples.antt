@@ -3,7 +3,7 @@
 use Rattle.std.proofs.Common.{◌≡◌, ℕ, List, [], ◌++◌, true, false, refl}
 use Rattle.std.specs.Prelude.{codes}
 use Rattle.std.specs.Fmt.{digits}
-use Rattle.gs_names.specs.declared.media.Media.TheVariants.{Turtle, NTriples}
+use Rattle.gs_names.specs.declared.media.ReplyType.TheVariants.{NTriples, Turtle, NQuads}
 use Rattle.gs_verdict.specs.declared.methods.Allow.TheVariants.{OfGraphs, OfStore}
 use Rattle.gs_reply.specs.Notices.{Nothing, Allows, Made}
 use Rattle.gs_model.specs.Ascii.{crlf}
@@ -90,7 +90,7 @@ no_content = refl
 not_allowed : reply_text 405 (Allows OfStore) false ≡
     line (codes "HTTP/1.1 405 Method Not Allowed")
     ++ line (codes "Content-Length: 0")
-    ++ line (codes "Allow: POST")
+    ++ line (codes "Allow: GET, HEAD, POST")
     ++ line []
 unfolding line reply_text status_line phrase_of field_line
 not_allowed = refl
@@ -143,6 +143,14 @@ head_closed : lines_head Turtle true ≡
     ++ line []
 unfolding line lines_head type_line chunked_line status_line phrase_of field_line
 head_closed = refl
+
+head_quads : lines_head NQuads false ≡
+    line (codes "HTTP/1.1 200 OK")
+    ++ line (codes "Content-Type: application/n-quads")
+    ++ line (codes "Transfer-Encoding: chunked")
+    ++ line []
+unfolding line lines_head type_line chunked_line status_line phrase_of field_line
+head_quads = refl
 
 -- 26 is `1a`: letters are small, and no nought stands before
 size : digits 16 false 26 ≡ codes "1a"

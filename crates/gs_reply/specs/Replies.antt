@@ -1,11 +1,11 @@
 -- The texts of replies (RFC 9112, sections 4 to 7 and 9.6; RFC 9110, section 15).
 use Rattle.std.specs.Prelude.{ℕ, Bool, false, ◌&&◌, nat_le, nat_lt, ◌==◌, if◌then◌else◌, unwrap_or}
-use Rattle.std.specs.Prelude.{List, [], ◌∷◌, ◌++◌, length, codes}
+use Rattle.std.specs.Prelude.{List, [], ◌++◌, length, codes}
 use Rattle.std.specs.Fmt.{digits}
 use Rattle.http.specs.StatusCode.{code_digits, reason_phrase}
 use Rattle.gs_model.specs.Ascii.{crlf}
-use Rattle.gs_names.specs.declared.media.Media.{Media}
-use Rattle.gs_names.specs.declared.media.Media.TheVariants.{Turtle, NTriples, Update}
+use Rattle.gs_names.specs.declared.media.ReplyType.{ReplyType}
+use Rattle.gs_names.specs.declared.media.ReplyType.TheVariants.{NTriples, Turtle, NQuads}
 use Rattle.gs_verdict.specs.Methods.{allow_text}
 use Rattle.gs_reply.specs.Notices.{Notice, Nothing, Allows, Made}
 
@@ -49,22 +49,22 @@ unfoldable pub continue_text : List ℕ
 continue_text = status_line 100 ++ crlf
 
 -- the name of a media type
-abbrev pub media_text : Media → List ℕ
-media_text Turtle = codes "text/turtle"
-media_text NTriples = codes "application/n-triples"
-media_text Update = codes "application/sparql-update"
+abbrev pub type_text : ReplyType → List ℕ
+type_text NTriples = codes "application/n-triples"
+type_text Turtle = codes "text/turtle"
+type_text NQuads = codes "application/n-quads"
 
 -- the type of a body that comes in chunks (RFC 9110, section 8.3)
-unfoldable pub type_line : Media → List ℕ
-type_line media = field_line (codes "Content-Type") (media_text media)
+unfoldable pub type_line : ReplyType → List ℕ
+type_line reply = field_line (codes "Content-Type") (type_text reply)
 
 -- the framing of a body that comes in chunks (RFC 9112, section 6.1)
 unfoldable pub chunked_line : List ℕ
 chunked_line = field_line (codes "Transfer-Encoding") (codes "chunked")
 
 -- the head of a reply whose body comes in chunks
-unfoldable pub lines_head : Media → Bool → List ℕ
-lines_head media closes = status_line 200 ++ type_line media ++ chunked_line ++ close_line closes ++ crlf
+unfoldable pub lines_head : ReplyType → Bool → List ℕ
+lines_head reply closes = status_line 200 ++ type_line reply ++ chunked_line ++ close_line closes ++ crlf
 
 -- chunk (RFC 9112, section 7.1), its size in lower-case hexadecimal; a piece without bytes is none
 unfoldable pub chunk : List ℕ → List ℕ

@@ -6,7 +6,7 @@ ghost use Rattle.gs_model.specs.Ascii.{crlf};
 ghost use Rattle.gs_reply.specs.Notices.{notice_of};
 ghost use Rattle.gs_reply.specs.Replies as spec;
 
-use gs_names::Media;
+use gs_names::ReplyType;
 use gs_verdict::Allow;
 use http::StatusCode;
 use std::alloc::{AllocError, Global};
@@ -134,21 +134,21 @@ pub fn push_reply(
     text.extend_from_slice(b"\r\n")
 }
 
-fn media_text(media: Media) -> &'static [u8]
-    ensures { result.now ≡ spec.media_text media }
+fn type_text(reply: ReplyType) -> &'static [u8]
+    ensures { result.now ≡ spec.type_text reply }
 {
-    match media {
-        Media::Turtle => b"text/turtle",
-        Media::NTriples => b"application/n-triples",
-        Media::Update => b"application/sparql-update",
+    match reply {
+        ReplyType::NTriples => b"application/n-triples",
+        ReplyType::Turtle => b"text/turtle",
+        ReplyType::NQuads => b"application/n-quads",
     }
 }
 
 #[tactic(auto, unfolding(crate::specs::Replies::type_line))]
-fn push_type(text: &mut Vec<u8>, media: Media) -> Result<(), AllocError>
-    ensures { OnOk result (text.new.items ≡ text.old.items ++ spec.type_line media) }
+fn push_type(text: &mut Vec<u8>, reply: ReplyType) -> Result<(), AllocError>
+    ensures { OnOk result (text.new.items ≡ text.old.items ++ spec.type_line reply) }
 {
-    push_field(text, b"Content-Type", media_text(media))
+    push_field(text, b"Content-Type", type_text(reply))
 }
 
 #[tactic(auto, unfolding(crate::specs::Replies::chunked_line))]
@@ -161,12 +161,12 @@ fn push_chunked(text: &mut Vec<u8>) -> Result<(), AllocError>
 /// Adds the head of a reply whose body comes in chunks. A HEAD's reply ends there. Memory is taken
 /// once, before the first byte.
 #[tactic(auto, unfolding(crate::specs::Replies::lines_head))]
-pub fn push_lines_head(text: &mut Vec<u8>, media: Media, closes: bool) -> Result<(), AllocError>
-    ensures { OnOk result (text.new.items ≡ text.old.items ++ spec.lines_head media closes) }
+pub fn push_lines_head(text: &mut Vec<u8>, reply: ReplyType, closes: bool) -> Result<(), AllocError>
+    ensures { OnOk result (text.new.items ≡ text.old.items ++ spec.lines_head reply closes) }
 {
     text.reserve(HEAD_BYTES)?;
     push_status(text, StatusCode::OK)?;
-    push_type(text, media)?;
+    push_type(text, reply)?;
     push_chunked(text)?;
     push_close(text, closes)?;
     text.extend_from_slice(b"\r\n")

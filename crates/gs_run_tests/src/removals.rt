@@ -2,6 +2,7 @@
 //! SPARQL 1.1 Query, section 18.3, and Update, section 3.1.3.3.
 use crate::runs::print_both;
 use gs_core::{Action, Event, Op, Refusal, UploadKind};
+use gs_event::Scope;
 use gs_term::Target;
 use gs_test_events::{lines, patterns, triples};
 use std::alloc::{AllocError, Global};
@@ -116,7 +117,7 @@ fn add_all(
     add(events, Action::Commit)?;
     add(events, Action::OpenPatch(Target::Default))?;
     add(events, Action::CommitPatch(operations(alloc, removed)?))?;
-    add(events, Action::Pin(Target::Default))?;
+    add(events, Action::Pin(Scope::One(Target::Default)))?;
     add(events, Action::Piece(99))
 }
 

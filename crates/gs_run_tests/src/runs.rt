@@ -3,7 +3,7 @@ use gs_core::{Event, MAX_NAMES, MAX_TRIPLES, Refusal, Store};
 use gs_event::Limits;
 use gs_plain::PlainStore;
 use gs_run::run;
-use gs_schedules::{ROWS, Row};
+use gs_schedules::{DATASETS, ROWS, Row};
 use gs_test_events::{answered, events, printed};
 use std::alloc::{AllocError, Global};
 use std::test::Fail;
@@ -138,5 +138,13 @@ pub fn wrong_row(alloc: Global, rows: &[Row]) -> Result<Option<&'static str>, Re
 #[test]
 fn a_run_over_each_store_answers_as_the_schedule_does(rt: HostRuntime) -> Result<(), Fail> {
     assert_eq!(rt; wrong_row(rt.alloc(), &ROWS)?, None);
+    Ok(())
+}
+
+#[test]
+fn a_run_over_each_store_reads_all_graphs_as_the_schedule_does(
+    rt: HostRuntime,
+) -> Result<(), Fail> {
+    assert_eq!(rt; wrong_row(rt.alloc(), &DATASETS)?, None);
     Ok(())
 }

@@ -1,11 +1,16 @@
 //! Schedules through `drill`, each with what it must print.
-use gs_schedules::{PATCHES, ROWS, Row, Stop, prints, unstopped_line, wrong_row};
+use gs_schedules::{DATASETS, PATCHES, ROWS, Row, Stop, prints, unstopped_line, wrong_row};
 use std::alloc::{AllocError, Global};
 use std::test::Fail;
 
 #[test]
 fn worked_schedules_print_what_they_must(rt: HostRuntime) {
     assert_eq!(rt; wrong_row(rt.alloc(), &ROWS), None);
+}
+
+#[test]
+fn worked_reads_of_all_graphs_print_what_they_must(rt: HostRuntime) {
+    assert_eq!(rt; wrong_row(rt.alloc(), &DATASETS), None);
 }
 
 #[test]
@@ -69,7 +74,7 @@ fn a_patch_that_is_not_utf8_is_no_command(rt: HostRuntime) {
 }
 
 /// Lines that are no command, each as the third line of a schedule.
-const NO_COMMANDS: [&str; 44] = [
+const NO_COMMANDS: [&str; 57] = [
     "0",
     "0 ",
     "pin default",
@@ -108,6 +113,19 @@ const NO_COMMANDS: [&str; 44] = [
     "0 delete graph",
     "0 head",
     "0 head <http://e/g> ",
+    "0 pin  all",
+    "0 pin ALL",
+    "0 pin all ",
+    "0 pin <all>",
+    "0 pin all default",
+    "0 pin default all",
+    "pin all",
+    "0 head ALL",
+    "0 heads all",
+    "0 delete all",
+    "0 open put all",
+    "0 open patch all",
+    "0 all",
     "0 stage <e> <http://e/p> \"1\" .",
     "0 stage <http://e/s> <http://e/p> \"1\".",
     "0 stage \"1\" <http://e/p> \"1\" .",

@@ -1,7 +1,7 @@
 //! Schedules of patches, worked by hand.
 use crate::rows::Row;
 
-pub const PATCHES: [Row; 25] = [
+pub const PATCHES: [Row; 26] = [
     (
         "an operation takes effect on what the ones before it left",
         "0 open patch default\n0 patch INSERT DATA { _:x <http://e/p> 1 } ; DELETE WHERE { ?s <http://e/p> 1 } ; INSERT DATA { <http://e/a> a 01 }\n0 pin default\n0 piece 9\n",
@@ -62,6 +62,11 @@ pub const PATCHES: [Row; 25] = [
         "0 open put default\n0 stage <http://e/s> <http://e/p> \"1\" .\n0 stage <http://e/s> <http://e/p> \"2\" .\n0 commit\n1 pin default\n1 piece 1\n0 open patch default\n0 patch DELETE DATA { <http://e/s> <http://e/p> \"1\" , \"2\" } ; INSERT DATA { <http://e/s> <http://e/p> \"3\" }\n1 piece 1\n1 pin default\n1 piece 9\n",
         "opened 1\nstaged\nstaged\n204\n200\n<http://e/s> <http://e/p> \"1\" .\nmore\nopened 2\n204\n<http://e/s> <http://e/p> \"2\" .\nend\n200\n<http://e/s> <http://e/p> \"3\" .\nend\n",
     ),
+    (
+        "a read of all graphs keeps its lines while one of them is patched",
+        "0 open put <http://e/g>\n0 stage <http://e/s> <http://e/p> \"1\" .\n0 stage <http://e/s> <http://e/p> \"2\" .\n0 commit\n1 pin all\n1 piece 1\n0 open patch <http://e/g>\n0 patch DELETE DATA { <http://e/s> <http://e/p> \"1\" , \"2\" } ; INSERT DATA { <http://e/s> <http://e/p> \"3\" }\n0 open patch default\n0 patch INSERT DATA { <http://e/s> <http://e/p> \"4\" }\n1 piece 1\n1 pin all\n1 piece 9\n",
+        "opened 1\nstaged\nstaged\n201\n200\n<http://e/s> <http://e/p> \"1\" <http://e/g> .\nmore\nopened 2\n204\nopened 3\n204\n<http://e/s> <http://e/p> \"2\" <http://e/g> .\nend\n200\n<http://e/s> <http://e/p> \"4\" .\n<http://e/s> <http://e/p> \"3\" <http://e/g> .\nend\n",
+    ),
     // In these two rows a read of the default graph has a version before that of the patch, and the first triple is above the second. Of
     // records two go: that of the patch's version, and that of the PUT of the default graph, which did not use it.
     (
@@ -81,8 +86,8 @@ pub const PATCHES: [Row; 25] = [
     ),
     (
         "a seat that patches takes nothing but its patch",
-        "0 open patch default\n0 feed nt <http://e/s> <http://e/p> \"1\" .\n0 feed ttl \n0 stage <http://e/s> <http://e/p> \"1\" .\n0 commit\n0 open put default\n0 open patch default\n0 pin default\n0 piece 1\n0 delete default\n0 head default\n0 patch\ncounts\n",
-        "opened 1\nrefused WrongPhase\nrefused WrongPhase\nrefused WrongPhase\nrefused WrongPhase\nrefused WrongPhase\nrefused WrongPhase\nrefused WrongPhase\nrefused WrongPhase\nrefused WrongPhase\nrefused WrongPhase\n204\nnodes 1 triples 0\n",
+        "0 open patch default\n0 feed nt <http://e/s> <http://e/p> \"1\" .\n0 feed ttl \n0 stage <http://e/s> <http://e/p> \"1\" .\n0 commit\n0 open put default\n0 open patch default\n0 pin default\n0 pin all\n0 piece 1\n0 delete default\n0 head default\n0 head all\n0 patch\ncounts\n",
+        "opened 1\nrefused WrongPhase\nrefused WrongPhase\nrefused WrongPhase\nrefused WrongPhase\nrefused WrongPhase\nrefused WrongPhase\nrefused WrongPhase\nrefused WrongPhase\nrefused WrongPhase\nrefused WrongPhase\nrefused WrongPhase\nrefused WrongPhase\n204\nnodes 1 triples 0\n",
     ),
     (
         "a patch in the middle of an upload is refused, and the upload goes on",

@@ -2,6 +2,7 @@
 use Rattle.std.proofs.Common.{◌≡◌, ◌⊎◌, inl, inr, ◌+◌, ◌≤◌, ◌==◌, arith, ℕ, Bool, true, false, cond, not, List, [], ◌∷◌, ◌++◌, length, refl, sym, ap, subst, ◌∙◌, append-nil, append_assoc}
 use Rattle.gs_model.specs.declared.refusals.Refusal.TheVariants as why
 use Rattle.gs_event.specs.declared.events.Action.TheVariants as act
+use Rattle.gs_event.specs.declared.events.Scope.{Scope}
 use Rattle.gs_event.specs.declared.answers.Answer.{Answer}
 use Rattle.gs_event.specs.declared.answers.Answer.TheVariants.{Status, Pinned, Lines, Refused}
 use Rattle.gs_term.specs.declared.names.Target.{Target}
@@ -90,7 +91,7 @@ look_settled : (a : Asked) (st : ℕ) (v : Bool)
 look_settled a st true = refl
 look_settled a st false = refl
 
-pub look_leads : {s : Server} {e : Bool} (a : Asked) (transfer : Transfer) (t : Target) (answer : Answer) (b x : List ℕ) (h : Deeds) (said body : List ℕ) (l : LeadsTo s e (Serving a (Skipping transfer)) b x h said)
+pub look_leads : {s : Server} {e : Bool} (a : Asked) (transfer : Transfer) (t : Scope) (answer : Answer) (b x : List ℕ) (h : Deeds) (said body : List ℕ) (l : LeadsTo s e (Serving a (Skipping transfer)) b x h said)
     → plan_of a ≡ Looks t → IsWholeAt l body → (n : Next) → AfterLook a answer n → LeadsTo s e n.phase b x (h ++ (act.Head t, answer) ∷ []) (said ++ n.said.items)
 look_leads a transfer t (Status st name) b x h said body l is whole n o =
     replies a (Skipping transfer) (Did (act.Head t) (Status st name) ∷ []) (Looked st) body (cond (st == 200) (lines_head a.reply a.closes) (reply_text st Nothing a.closes)) a.closes b x h said l whole
@@ -126,7 +127,7 @@ pub reads_on : {s : Server} {e : Bool} (a : Asked) (k k2 : Work) (ms : List Move
 reads_on a k k2 ms c u b x h said body l whole suit f g none j n y =
     to_next n (Serving a k2) u b x (h ++ deeds_of ms) said y (reads_at a k k2 ms c u b x h said body l whole suit f g none j)
 
-begun : {s : Server} {e : Bool} (a : Asked) (transfer : Transfer) (t : Target) (st : ℕ) (b x : List ℕ) (h : Deeds) (said body : List ℕ) (l : LeadsTo s e (Serving a (Skipping transfer)) b x h said)
+begun : {s : Server} {e : Bool} (a : Asked) (transfer : Transfer) (t : Scope) (st : ℕ) (b x : List ℕ) (h : Deeds) (said body : List ℕ) (l : LeadsTo s e (Serving a (Skipping transfer)) b x h said)
     → plan_of a ≡ Reads t → IsWholeAt l body → course_after a l.trail.course (Did (act.Pin t) (Pinned st)) ≡ Held [] (lines_head a.reply a.closes) false → (n : Next) → BeginsRead n a
     → LeadsTo s e n.phase b x (h ++ (act.Pin t, Pinned st) ∷ []) (said ++ n.said.items)
 begun a transfer t st b x h said body l is whole f n (inl y) =
@@ -136,7 +137,7 @@ begun a transfer t st b x h said body l is whole f n (inr y) =
     reads_on a (Skipping transfer) work.Cutting (Did (act.Pin t) (Pinned st) ∷ Short ∷ []) (Cutting []) [] b x h said body l whole (is, tt) (ap (λ (c : Course). course_after a c Short) f)
     (ap (λ z. z ++ []) (greeted_skip a l.trail.course l.keeps.stands.1 l.keeps.stands.2)) refl ([], body, refl, λ z. refl) n y
 
-pinned : {s : Server} {e : Bool} (a : Asked) (transfer : Transfer) (t : Target) (st : ℕ) (b x : List ℕ) (h : Deeds) (said body : List ℕ) (l : LeadsTo s e (Serving a (Skipping transfer)) b x h said)
+pinned : {s : Server} {e : Bool} (a : Asked) (transfer : Transfer) (t : Scope) (st : ℕ) (b x : List ℕ) (h : Deeds) (said body : List ℕ) (l : LeadsTo s e (Serving a (Skipping transfer)) b x h said)
     → plan_of a ≡ Reads t → IsWholeAt l body → (v : Bool) → course_after a l.trail.course (Did (act.Pin t) (Pinned st)) ≡ cond v (Held [] (lines_head a.reply a.closes) false) (Missing st)
     → (n : Next) → cond v (BeginsRead n a) (Replies n st a.closes) → LeadsTo s e n.phase b x (h ++ (act.Pin t, Pinned st) ∷ []) (said ++ n.said.items)
 pinned a transfer t st b x h said body l is whole true f n o = begun a transfer t st b x h said body l is whole f n o
@@ -145,7 +146,7 @@ pinned a transfer t st b x h said body l is whole false f n o =
     (few_still a (Skipping transfer) b x h said l body (Did (act.Pin t) (Pinned st) ∷ []) whole refl)
     (record { suits = (is, tt); came = f; mute = refl; own = tt; settled = refl; greeted = greeted_skip a l.trail.course l.keeps.stands.1 l.keeps.stands.2 }) n o
 
-pub pin_leads : {s : Server} {e : Bool} (a : Asked) (transfer : Transfer) (t : Target) (answer : Answer) (b x : List ℕ) (h : Deeds) (said body : List ℕ) (l : LeadsTo s e (Serving a (Skipping transfer)) b x h said)
+pub pin_leads : {s : Server} {e : Bool} (a : Asked) (transfer : Transfer) (t : Scope) (answer : Answer) (b x : List ℕ) (h : Deeds) (said body : List ℕ) (l : LeadsTo s e (Serving a (Skipping transfer)) b x h said)
     → plan_of a ≡ Reads t → IsWholeAt l body → (n : Next) → AfterPin a answer n → LeadsTo s e n.phase b x (h ++ (act.Pin t, answer) ∷ []) (said ++ n.said.items)
 pin_leads a transfer t (Pinned st) b x h said body l is whole n o =
     pinned a transfer t st b x h said body l is whole (st == 200) (first_is a l.trail.course (Reads t) (Did (act.Pin t) (Pinned st)) l.keeps.stands.1 is) n o

@@ -2,6 +2,7 @@
 use Rattle.std.proofs.Common.{◌≡◌, ◌⊎◌, inl, inr, ◌+◌, ◌*◌, ◌≤◌, ◌<◌, arith, ℕ, zero, suc, Bool, true, false, List, [], ◌∷◌, ◌++◌, length, take, drop, refl, sym, ap, subst, ◌∙◌, append-nil, length-append, length-drop}
 use Rattle.gs_event.specs.declared.events.Event.{Event}
 use Rattle.gs_event.specs.declared.events.Action.TheVariants as act
+use Rattle.gs_event.specs.declared.events.Scope.{Scope}
 use Rattle.gs_event.specs.declared.answers.Answer.{Answer}
 use Rattle.gs_term.specs.declared.names.Target.{Target}
 use Rattle.gs_transfer.specs.Cuts.{BodyCut, End, ends, with_data, cut_from}
@@ -128,14 +129,14 @@ delete_steps gives setup e a t u b old new n over is o =
     (act.Delete u, o.0, o.1, λ x h said l. delete_leads a t u o.0 b x h said (l.keeps.stands.0 ++ []) l is (skip_whole a t b x h said l over) n o.2)
 
 -- A graph is looked at.
-pub look_steps : {D : Type 0} (gives : D → Event → Answer → D → Type 0) (setup : Setup) (e : Bool) (a : Asked) (t : Transfer) (u : Target) (b : List ℕ) (old new : D) (n : Next)
+pub look_steps : {D : Type 0} (gives : D → Event → Answer → D → Type 0) (setup : Setup) (e : Bool) (a : Asked) (t : Transfer) (u : Scope) (b : List ℕ) (old new : D) (n : Next)
     → ((y : List ℕ) → cut_of t (b ++ y) ≡ ends (cut.Whole (b ++ y))) → plan_of a ≡ Looks u → Does gives setup.seat old (act.Head u) new (λ answer. AfterLook a answer n)
     → DoesStep gives setup e (Serving a (Skipping t)) b old (Made n) b new
 look_steps gives setup e a t u b old new n over is o =
     (act.Head u, o.0, o.1, λ x h said l. look_leads a t u o.0 b x h said (l.keeps.stands.0 ++ []) l is (skip_whole a t b x h said l over) n o.2)
 
 -- A read begins.
-pub pin_steps : {D : Type 0} (gives : D → Event → Answer → D → Type 0) (setup : Setup) (e : Bool) (a : Asked) (t : Transfer) (u : Target) (b : List ℕ) (old new : D) (n : Next)
+pub pin_steps : {D : Type 0} (gives : D → Event → Answer → D → Type 0) (setup : Setup) (e : Bool) (a : Asked) (t : Transfer) (u : Scope) (b : List ℕ) (old new : D) (n : Next)
     → ((y : List ℕ) → cut_of t (b ++ y) ≡ ends (cut.Whole (b ++ y))) → plan_of a ≡ Reads u → Does gives setup.seat old (act.Pin u) new (λ answer. AfterPin a answer n)
     → DoesStep gives setup e (Serving a (Skipping t)) b old (Made n) b new
 pin_steps gives setup e a t u b old new n over is o =

@@ -9,6 +9,6 @@ abbrev pub plan_told : Plan → talk.Plan
 plan_told (Upload k) = Uploads k
 plan_told (Patch t) = Patches t
 plan_told (Delete t) = Deletes t
-plan_told (Look t) = Looks t
-plan_told (Read t) = Reads t
+plan_told (Look c) = Looks c
+plan_told (Read c) = Reads c
 plan_told Nothing = NoPlan

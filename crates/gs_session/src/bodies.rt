@@ -18,7 +18,7 @@ use crate::plans::{Plan, plan_of};
 use crate::setups::Setup;
 use crate::steps::Step;
 use gs_door::Door;
-use gs_event::Action;
+use gs_event::{Action, Scope};
 use gs_reply::ReplyNote;
 use gs_term::Target;
 use gs_transfer::{Part, Transfer};
@@ -33,21 +33,21 @@ fn delete<D: Door>(setup: &Setup, asked: &Asked, target: Target, door: &mut D) -
     after_delete(setup.alloc, asked, &answer)
 }
 
-/// A graph is looked at.
-fn look<D: Door>(setup: &Setup, asked: &Asked, target: Target, door: &mut D) -> Next
-    ensures { Does D.Gives setup.now.seat door.old (act.Head target) door.new
+/// A graph is looked at, or all are.
+fn look<D: Door>(setup: &Setup, asked: &Asked, scope: Scope, door: &mut D) -> Next
+    ensures { Does D.Gives setup.now.seat door.old (act.Head scope) door.new
         (λ answer. AfterLook asked.now answer result) }
 {
-    let answer = setup.act(Action::Head(target), door);
+    let answer = setup.act(Action::Head(scope), door);
     after_look(setup.alloc, asked, &answer)
 }
 
-/// A read of a graph begins.
-fn pin<D: Door>(setup: &Setup, asked: Asked, target: Target, door: &mut D) -> Next
-    ensures { Does D.Gives setup.now.seat door.old (act.Pin target) door.new
+/// A read of a graph begins, or of all of them.
+fn pin<D: Door>(setup: &Setup, asked: Asked, scope: Scope, door: &mut D) -> Next
+    ensures { Does D.Gives setup.now.seat door.old (act.Pin scope) door.new
         (λ answer. AfterPin asked answer result) }
 {
-    let answer = setup.act(Action::Pin(target), door);
+    let answer = setup.act(Action::Pin(scope), door);
     after_pin(setup.alloc, asked, &answer)
 }
 
@@ -59,8 +59,8 @@ fn ask<D: Door>(setup: &Setup, asked: Asked, door: &mut D) -> Step
 {
     match plan_of(&asked) {
         Ok(Plan::Delete(target)) => Step::Made(delete(setup, &asked, target, door)),
-        Ok(Plan::Look(target)) => Step::Made(look(setup, &asked, target, door)),
-        Ok(Plan::Read(target)) => Step::Made(pin(setup, asked, target, door)),
+        Ok(Plan::Look(scope)) => Step::Made(look(setup, &asked, scope, door)),
+        Ok(Plan::Read(scope)) => Step::Made(pin(setup, asked, scope, door)),
         // There was no memory for the name. (Another plan never drops its body.)
         _ => Step::Silent(reply(setup.alloc, 503, ReplyNote::Nothing, true)),
     }

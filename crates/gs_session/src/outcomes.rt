@@ -92,7 +92,7 @@ fn head_text(alloc: Global, asked: &Asked) -> Result<Vec<u8>, AllocError>
     Ok(text)
 }
 
-/// The reply to a HEAD of a graph that is there.
+/// The reply to a HEAD of a graph that is there, or of all graphs.
 fn found(alloc: Global, asked: &Asked) -> Next
     ensures { RepliesFound result asked.now }
 {

@@ -3,7 +3,7 @@ ghost use Rattle.std.specs.Prelude.{◌≡◌, Some, IfOk};
 ghost use Rattle.gs_talk.specs.Plans.{opens as opens_plan, plan_of as plan_of_asked, plan_on as plan_by};
 ghost use Rattle.gs_session.specs.Plans.{plan_told};
 
-use gs_event::UploadKind;
+use gs_event::{Scope, UploadKind};
 use gs_term::Target;
 use gs_verdict::{Asked, Method};
 use std::alloc::AllocError;
@@ -14,9 +14,9 @@ pub enum Plan {
     Upload(UploadKind),
     Patch(Target),
     Delete(Target),
-    Look(Target),
-    Read(Target),
-    /// Nothing: the store itself is for POST alone.
+    Look(Scope),
+    Read(Scope),
+    /// Nothing: the store itself is for GET, HEAD and POST.
     Nothing,
 }
 
@@ -37,8 +37,8 @@ fn plan_on(method: Method, target: Target) -> Plan
     ensures { plan_told result ≡ plan_by method (Some target) }
 {
     match method {
-        Method::Get => Plan::Read(target),
-        Method::Head => Plan::Look(target),
+        Method::Get => Plan::Read(Scope::One(target)),
+        Method::Head => Plan::Look(Scope::One(target)),
         Method::Put => Plan::Upload(UploadKind::Put(target)),
         Method::Post => Plan::Upload(UploadKind::Post(target)),
         Method::Delete => Plan::Delete(target),
@@ -46,12 +46,14 @@ fn plan_on(method: Method, target: Target) -> Plan
     }
 }
 
-/// What a request asks of the store, with a copy of its graph's name.
+/// What a request asks of the store, with a copy of its graph's name. The store itself has none.
 pub fn plan_of(asked: &Asked) -> Result<Plan, AllocError>
     ensures { IfOk result (λ p. plan_told p ≡ plan_of_asked asked.now) }
 {
     match (asked.method, &asked.graph) {
         (method, Some(target)) => Ok(plan_on(method, target.clone()?)),
+        (Method::Get, None) => Ok(Plan::Read(Scope::All)),
+        (Method::Head, None) => Ok(Plan::Look(Scope::All)),
         (Method::Post, None) => Ok(Plan::Upload(UploadKind::New)),
         (_, None) => Ok(Plan::Nothing),
     }

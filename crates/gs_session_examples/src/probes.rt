@@ -1,6 +1,6 @@
 //! Stores, and what is seen of them after a conversation.
 use crate::cases::Numbers;
-use gs_core::{Action, Answer, Event, Refusal, Store};
+use gs_core::{Action, Answer, Event, Refusal, Scope, Store};
 use gs_term::{GraphName, Target};
 use std::alloc::Global;
 
@@ -45,7 +45,7 @@ impl Probe {
     /// Questions for the default graph, and for those that conversations make.
     pub fn new(alloc: Global) -> Result<Probe, Refusal> {
         let mut heads = Vec::new(alloc);
-        let default = Event::Seat(0, Action::Head(Target::Default));
+        let default = Event::Seat(0, Action::Head(Scope::One(Target::Default)));
         heads.push(default)?;
         for name in [
             "http://e/g",
@@ -53,7 +53,7 @@ impl Probe {
             "http://localhost/graphs/n1-0",
         ] {
             let target = Target::Named(GraphName::new(alloc, name)?);
-            let head = Event::Seat(0, Action::Head(target));
+            let head = Event::Seat(0, Action::Head(Scope::One(target)));
             heads.push(head)?;
         }
         Ok(Probe { heads })

@@ -26,10 +26,10 @@ decided_of-ask_of_action (CommitPatch ops) (Status s name) = refl
 decided_of-ask_of_action (CommitPatch ops) a = refl
 decided_of-ask_of_action (Delete t) (Status s name) = refl
 decided_of-ask_of_action (Delete t) a = refl
-decided_of-ask_of_action (Head t) (Status s name) = refl
-decided_of-ask_of_action (Head t) a = refl
-decided_of-ask_of_action (Pin t) (Pinned s) = refl
-decided_of-ask_of_action (Pin t) a = refl
+decided_of-ask_of_action (Head c) (Status s name) = refl
+decided_of-ask_of_action (Head c) a = refl
+decided_of-ask_of_action (Pin c) (Pinned s) = refl
+decided_of-ask_of_action (Pin c) a = refl
 decided_of-ask_of_action action a = refl
 
 -- what an action asked brings with an answer what the action brings
@@ -42,8 +42,8 @@ brought_of-ask_of_action (CommitPatch ops) (Status s name) = refl
 brought_of-ask_of_action (CommitPatch ops) a = refl
 brought_of-ask_of_action (Delete t) (Status s name) = refl
 brought_of-ask_of_action (Delete t) a = refl
-brought_of-ask_of_action (Head t) (Status s name) = refl
-brought_of-ask_of_action (Head t) a = refl
+brought_of-ask_of_action (Head c) (Status s name) = refl
+brought_of-ask_of_action (Head c) a = refl
 brought_of-ask_of_action action a = refl
 
 -- a refusal decides nothing

@@ -70,8 +70,8 @@ seat_law s n p Cancel Cancelled more small is = let few = size_if-call_for s 0 0
 seat_law s n p Cancel a more small is = let few = size_if-call_for s 0 (status_in a) (operation_of p Cancel a) in omega (arith, few)
 seat_law s n p (OpenPatch t) a more small is = let few = size_if-call_for s 0 (status_in a) (operation_of p (OpenPatch t) a) in omega (arith, few)
 seat_law s n p (Delete t) a more small is = let few = size_if-call_for s 0 (status_in a) (operation_of p (Delete t) a) in omega (arith, few)
-seat_law s n p (Head t) a more small is = let few = size_if-call_for s 0 (status_in a) (operation_of p (Head t) a) in omega (arith, few)
-seat_law s n p (Pin t) a more small is = let few = size_if-call_for s 0 (status_in a) (operation_of p (Pin t) a) in omega (arith, few)
+seat_law s n p (Head c) a more small is = let few = size_if-call_for s 0 (status_in a) (operation_of p (Head c) a) in omega (arith, few)
+seat_law s n p (Pin c) a more small is = let few = size_if-call_for s 0 (status_in a) (operation_of p (Pin c) a) in omega (arith, few)
 seat_law s n p (Piece m) a more small is = let few = size_if-call_for s 0 (status_in a) (operation_of p (Piece m) a) in omega (arith, few)
 
 -- a sum after one of its numbers was set
@@ -100,8 +100,8 @@ idle_mark : (t : Totals) (s n : ℕ) (action : Action) (a : Answer) → FitsSeat
 idle_mark t s n Commit (Status x name) fits = absurd fits
 idle_mark t s n (CommitPatch ops) (Status x name) fits = absurd fits
 idle_mark t s n (Delete u) (Status x name) fits = refl
-idle_mark t s n (Head u) (Status x name) fits = refl
-idle_mark t s n (Pin u) (Pinned x) fits = refl
+idle_mark t s n (Head c) (Status x name) fits = refl
+idle_mark t s n (Pin c) (Pinned x) fits = refl
 idle_mark t s n action a fits = refl
 
 -- The same of a seat that writes.
@@ -111,16 +111,16 @@ writing_mark t s n (Post u) r g Commit (Status x name) fits = refl
 writing_mark t s n New r g Commit (Status x name) fits = refl
 writing_mark t s n k r g (CommitPatch ops) (Status x name) fits = absurd fits
 writing_mark t s n k r g (Delete u) (Status x name) fits = absurd fits
-writing_mark t s n k r g (Head u) (Status x name) fits = absurd fits
-writing_mark t s n k r g (Pin u) (Pinned x) fits = absurd fits
+writing_mark t s n k r g (Head c) (Status x name) fits = absurd fits
+writing_mark t s n k r g (Pin c) (Pinned x) fits = absurd fits
 writing_mark t s n k r g action a fits = refl
 
 -- The same of a seat that patches.
 patching_mark : (t : Totals) (s n : ℕ) (u : Target) (r : ℕ) (action : Action) (a : Answer) → FitsSeat t (Patching u r) action a → mark_if (decided_at s (Patching u r) n action a) ≡ decides action a
 patching_mark t s n u r Commit (Status x name) fits = absurd fits
 patching_mark t s n u r (Delete w) (Status x name) fits = absurd fits
-patching_mark t s n u r (Head w) (Status x name) fits = absurd fits
-patching_mark t s n u r (Pin w) (Pinned x) fits = absurd fits
+patching_mark t s n u r (Head c) (Status x name) fits = absurd fits
+patching_mark t s n u r (Pin c) (Pinned x) fits = absurd fits
 patching_mark t s n u r (CommitPatch ops) (Status x name) fits = refl
 patching_mark t s n u r action a fits = refl
 
@@ -129,8 +129,8 @@ reading_mark : (t : Totals) (s n : ℕ) (left : List (List ℕ)) (action : Actio
 reading_mark t s n left Commit (Status x name) fits = absurd fits
 reading_mark t s n left (CommitPatch ops) (Status x name) fits = absurd fits
 reading_mark t s n left (Delete u) (Status x name) fits = absurd fits
-reading_mark t s n left (Head u) (Status x name) fits = absurd fits
-reading_mark t s n left (Pin u) (Pinned x) fits = absurd fits
+reading_mark t s n left (Head c) (Status x name) fits = absurd fits
+reading_mark t s n left (Pin c) (Pinned x) fits = absurd fits
 reading_mark t s n left action a fits = refl
 
 -- The same of any seat.

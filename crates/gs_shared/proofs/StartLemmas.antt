@@ -37,8 +37,8 @@ seat_knows : (w : Totals) (p : SeatView) (action : Action) → FitsSeat w p acti
 seat_knows w Idle (Open k) f = f
 seat_knows w Idle (OpenPatch t) f = f
 seat_knows w Idle (Delete t) f = f
-seat_knows w Idle (Head t) f = f
-seat_knows w Idle (Pin t) f = f
+seat_knows w Idle (Head c) f = f
+seat_knows w Idle (Pin c) f = f
 seat_knows w (Writing k r g) (Stage ts) f = f
 seat_knows w (Writing k r g) Commit f = f
 seat_knows w (Writing k r g) Cancel f = f

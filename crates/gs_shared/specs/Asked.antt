@@ -23,8 +23,8 @@ ask_of_action (Stage ts) = AsksStage (capped_count (length ts.items))
 ask_of_action Commit = AsksStatus CommitKind 0
 ask_of_action (CommitPatch ops) = AsksStatus PatchKind (capped_count (ops_size ops.items))
 ask_of_action (Delete t) = AsksStatus DeleteKind 0
-ask_of_action (Head t) = AsksStatus HeadKind 0
-ask_of_action (Pin t) = AsksPin
+ask_of_action (Head c) = AsksStatus HeadKind 0
+ask_of_action (Pin c) = AsksPin
 ask_of_action action = AsksNothing
 
 -- what an event asks

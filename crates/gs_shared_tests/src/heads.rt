@@ -4,7 +4,7 @@ ghost use Rattle.crossbeam_utils.specs.Seq.{cell_view};
 ghost use Rattle.gs_core.specs.Settings.{start_at};
 ghost use Rattle.gs_pass.specs.Stamps.{keeper as keeper_of};
 
-use gs_event::{Action, Event};
+use gs_event::{Action, Event, Scope};
 use gs_shared::{
     CountedLedger, Ended, Pass, Room, Shared, SharedStore, StampCell, Token, stamp_cell,
 };
@@ -26,7 +26,8 @@ pub fn ask<C: CountedLedger, T: CountedLedger, B: Room, R: Wait>(
 ) -> Pass<C, T, B> {
     let mut pass = pass;
     for _ in 0..times {
-        let event = Event::Seat(pass.seat(), Action::Head(Target::Default));
+        let head = Action::Head(Scope::One(Target::Default));
+        let event = Event::Seat(pass.seat(), head);
         let _ = store.event(rt, &mut pass, event);
     }
     pass

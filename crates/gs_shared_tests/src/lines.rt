@@ -1,10 +1,11 @@
-//! One thread writes a graph, another reads it afterwards, and keeps its lines while the first puts it again.
+//! One thread writes a graph, another reads it afterwards, or all graphs, and keeps its lines while the
+//! first puts it again.
 ghost use Rattle.std.specs.Prelude.{◌≡◌, ◌<◌, [], codes};
 ghost use Rattle.crossbeam_utils.specs.Seq.{cell_view};
 ghost use Rattle.gs_core.specs.Settings.{start_at};
 ghost use Rattle.gs_pass.specs.Stamps.{keeper as keeper_of};
 
-use gs_event::{Action, Answer, Event, UploadKind};
+use gs_event::{Action, Answer, Event, Scope, UploadKind};
 use gs_shared::{CountedLedger, Pass, Room, Shared, SharedStore, StampCell, Token, stamp_cell};
 use gs_term::{GraphName, Target, TermText, Triple};
 use std::alloc::{AllocError, Global};
@@ -15,10 +16,25 @@ use std::test::Fail;
 use std::thread;
 use std::thread::Threads;
 
-/// The lines of the graph.
-const FIRST_LINE: &str = "<http://e/s> <http://e/p> \"1\" .\n";
+/// What is read, the graph or all graphs, and its two lines.
+#[derive(Clone, Copy)]
+struct Reading {
+    is_whole: bool,
+    first: &'static str,
+    last: &'static str,
+}
 
-const LAST_LINE: &str = "<http://e/s> <http://e/p> \"2\" .\n";
+const OF_GRAPH: Reading = Reading {
+    is_whole: false,
+    first: "<http://e/s> <http://e/p> \"1\" .\n",
+    last: "<http://e/s> <http://e/p> \"2\" .\n",
+};
+
+const OF_ALL: Reading = Reading {
+    is_whole: true,
+    first: "<http://e/s> <http://e/p> \"1\" <http://e/g> .\n",
+    last: "<http://e/s> <http://e/p> \"2\" <http://e/g> .\n",
+};
 
 /// `<http://e/s> <http://e/p> "x" .`
 fn triple(alloc: Global, word: &str) -> Option<Triple> {
@@ -74,17 +90,27 @@ fn write<C: CountedLedger, T: CountedLedger, B: Room, R: Wait>(
     (pass, is_right)
 }
 
-/// Begins to read the graph; whether that has status 200.
+/// What a reading is of.
+fn scope_of(alloc: Global, reading: Reading) -> Option<Scope> {
+    Some(if reading.is_whole {
+        Scope::All
+    } else {
+        Scope::One(target(alloc)?)
+    })
+}
+
+/// Begins a reading; whether that has status 200.
 fn pin<C: CountedLedger, T: CountedLedger, B: Room, R: Wait>(
     rt: &R,
     alloc: Global,
     store: &SharedStore<C, T, B>,
     pass: &mut Pass<C, T, B>,
+    reading: Reading,
 ) -> bool {
-    let Some(target) = target(alloc) else {
+    let Some(scope) = scope_of(alloc, reading) else {
         return false;
     };
-    let answer = act(rt, store, pass, Action::Pin(target));
+    let answer = act(rt, store, pass, Action::Pin(scope));
     let is_right = matches!(answer, Answer::Pinned(200));
     drop(answer);
     is_right
@@ -107,29 +133,31 @@ fn reads<C: CountedLedger, T: CountedLedger, B: Room, R: Wait>(
     is_right
 }
 
-/// Begins to read the graph, and reads its first line, which is not the last.
+/// Begins a reading, and reads its first line, which is not the last.
 fn begin<C: CountedLedger, T: CountedLedger, B: Room, R: Wait>(
     rt: &R,
     alloc: Global,
     store: &SharedStore<C, T, B>,
     pass: Pass<C, T, B>,
+    reading: Reading,
 ) -> (Pass<C, T, B>, bool) {
     let mut pass = pass;
-    let is_right = pin(rt, alloc, store, &mut pass)
-        && reads(rt, store, &mut pass, FIRST_LINE, false);
+    let is_right = pin(rt, alloc, store, &mut pass, reading)
+        && reads(rt, store, &mut pass, reading.first, false);
     (pass, is_right)
 }
 
-/// Reads the last line of the graph as it was, and then the graph as it is, which has none.
+/// Reads the last line of what was read as it was, and then begins to read it as it is, which has none.
 fn go_on<C: CountedLedger, T: CountedLedger, B: Room, R: Wait>(
     rt: &R,
     alloc: Global,
     store: &SharedStore<C, T, B>,
     pass: Pass<C, T, B>,
+    reading: Reading,
 ) -> bool {
     let mut pass = pass;
-    let is_right = reads(rt, store, &mut pass, LAST_LINE, true)
-        && pin(rt, alloc, store, &mut pass)
+    let is_right = reads(rt, store, &mut pass, reading.last, true)
+        && pin(rt, alloc, store, &mut pass, reading)
         && reads(rt, store, &mut pass, "", true);
     drop(pass);
     is_right
@@ -149,20 +177,25 @@ fn write_and_read<
     store: &SharedStore<C, T, B>,
     writer: Pass<C, T, B>,
     reader: Pass<C, T, B>,
+    reading: Reading,
 ) -> Option<[bool; 4]> {
     thread::scope(thread::scope_env(), rt, move |scope| -> Option<[bool; 4]> {
         let puts = scope
             .spawn(move || write(rt, alloc, store, writer, &["2", "1"], 201))
             .ok()?;
         let (writer, made) = puts.join(rt);
-        let begins = scope.spawn(move || begin(rt, alloc, store, reader)).ok()?;
+        let begins = scope
+            .spawn(move || begin(rt, alloc, store, reader, reading))
+            .ok()?;
         let (reader, begun) = begins.join(rt);
         let empties = scope
             .spawn(move || write(rt, alloc, store, writer, &[], 204))
             .ok()?;
         let (writer, emptied) = empties.join(rt);
         drop(writer);
-        let goes_on = scope.spawn(move || go_on(rt, alloc, store, reader)).ok()?;
+        let goes_on = scope
+            .spawn(move || go_on(rt, alloc, store, reader, reading))
+            .ok()?;
         Some([made, begun, emptied, goes_on.join(rt)])
     })
 }
@@ -173,7 +206,7 @@ fn write_and_read_at<
     T: CountedLedger + Send + Sync,
     B: Room + Send + Sync,
     R: Threads + Wait + Sync,
->(rt: &R, alloc: Global, shared: &mut Shared<C, T, B>) -> Option<[bool; 4]> {
+>(rt: &R, alloc: Global, shared: &mut Shared<C, T, B>, reading: Reading) -> Option<[bool; 4]> {
     let mut passes = shared.passes(2).ok()?;
     let reader = passes.pop();
     let writer = passes.pop();
@@ -186,7 +219,7 @@ fn write_and_read_at<
         drop(writer);
         return None;
     };
-    write_and_read(rt, alloc, shared.store(), writer, reader)
+    write_and_read(rt, alloc, shared.store(), writer, reader, reading)
 }
 
 /// The same of a new store.
@@ -202,6 +235,7 @@ fn run<
     keeper: Token,
     calls: Blank,
     triples: Blank,
+    reading: Reading,
 ) -> Option<[bool; 4]>
     requires cell { (cell.table.shared.table_id ≡ B.table)
         × (keeper.table_id ≡ B.table)
@@ -221,21 +255,27 @@ fn run<
         triples,
     )
     .ok()?;
-    let right = write_and_read_at(rt, alloc, &mut shared);
+    let right = write_and_read_at(rt, alloc, &mut shared, reading);
     drop(shared);
     right
 }
 
 /// The same, with what a store is made of.
-fn write_read<R: Threads + Wait + Sync>(rt: &R, alloc: Global) -> Option<[bool; 4]> {
+fn write_read<R: Threads + Wait + Sync>(
+    rt: &R,
+    alloc: Global,
+    reading: Reading,
+) -> Option<[bool; 4]> {
     let (cell, keeper) = stamp_cell(alloc).ok()?;
     let (calls, triples) = (Blank::new(3), Blank::new(3));
-    run::<Brand, Brand, Brand, R>(rt, alloc, cell, keeper, calls, triples)
+    run::<Brand, Brand, Brand, R>(rt, alloc, cell, keeper, calls, triples, reading)
 }
 
 #[test]
 fn write_read_back(rt: HostRuntime) -> Result<(), Fail> {
-    let right = write_read(&rt, rt.alloc()).expect(&rt, "memory and threads");
-    assert_eq!(rt; right, [true, true, true, true]);
+    let graph = write_read(&rt, rt.alloc(), OF_GRAPH).expect(&rt, "memory and threads");
+    let all = write_read(&rt, rt.alloc(), OF_ALL).expect(&rt, "memory and threads");
+    assert_eq!(rt; graph, [true, true, true, true]);
+    assert_eq!(rt; all, [true, true, true, true]);
     Ok(())
 }

@@ -5,17 +5,24 @@
 mod stores;
 
 use crate::stores::{Played, SMALL, WHOLE};
-use gs_drawn_schedules::{Play, Stop, Totals};
+use gs_drawn_schedules::{Judge, Play, Stop, Totals};
 use gs_event::Limits;
-use gs_fixed_schedules::{Lines, large_lines, last_node_lines, last_node_posts, last_term_lines};
+use gs_fixed_schedules::{
+    Lines, beside_kept_writes, beside_writes, large_lines, last_node_lines, last_node_posts,
+    last_term_lines, seat_lines, two_versions, without_lines,
+};
 use gs_version_models::Lie;
 use std::alloc::Global;
+use std::env;
 use std::io::{self, Write};
+use std::rt::Env;
 
-/// How many schedules there are.
-const SCHEDULES: u64 = 200;
+/// The last schedule that asks of single graphs alone, and the last of all.
+const LAST_NARROW: u64 = 200;
 
-/// How many of them are played again by a model that is wrong on purpose.
+const LAST: u64 = 300;
+
+/// How many of both sorts are played again by a model that is wrong on purpose.
 const WRONG_SCHEDULES: u64 = 4;
 
 const LIES: [Lie; 6] = [
@@ -26,6 +33,9 @@ const LIES: [Lie; 6] = [
     Lie::EndsLate,
     Lie::BeginsLate,
 ];
+
+/// What it is told wrongly where all graphs are read too.
+const WIDE_LIES: [Lie; 3] = [Lie::ReadsMoveOn, Lie::AllNeedNothing, Lie::BareNames];
 
 /// Plays a schedule on a store, beside a plain one that holds as much.
 fn play_on(
@@ -56,11 +66,12 @@ fn play(alloc: Global, number: u64, lie: Lie, totals: &mut Totals) -> Result<(),
     done
 }
 
-/// Plays schedules with a model that is wrong, and prints what is found first, and in how many.
-fn play_wrong<W: Write>(alloc: Global, lie: Lie, out: &mut W) -> io::Result<()> {
+/// Plays schedules after this one with a model that is wrong, and prints what is found first, and in how many.
+fn play_wrong<W: Write>(alloc: Global, before: u64, lie: Lie, out: &mut W) -> io::Result<()> {
     let mut totals = Totals::new();
     let mut count = 0u64;
-    for number in 1..=WRONG_SCHEDULES {
+    for place in 1..=WRONG_SCHEDULES {
+        let number = before.saturating_add(place);
         if let Err(stop) = play(alloc, number, lie, &mut totals) {
             if count == 0 {
                 write!(out, "wrong on purpose, {}: ", lie.text())?;
@@ -76,11 +87,11 @@ fn play_wrong<W: Write>(alloc: Global, lie: Lie, out: &mut W) -> io::Result<()> 
     )
 }
 
-/// Plays all schedules.
-fn play_drawn<W: Write>(alloc: Global, out: &mut W) -> io::Result<()> {
+/// Plays the schedules from one on to another.
+fn play_drawn<W: Write>(alloc: Global, first: u64, last: u64, out: &mut W) -> io::Result<()> {
     let mut totals = Totals::new();
     let mut findings = 0u64;
-    for number in 1..=SCHEDULES {
+    for number in first..=last {
         if let Err(stop) = play(alloc, number, Lie::Nothing, &mut totals) {
             findings = findings.saturating_add(1);
             stop.print(number, out)?;
@@ -93,6 +104,66 @@ fn play_drawn<W: Write>(alloc: Global, out: &mut W) -> io::Result<()> {
 /// Plays a run that is the same each time on a store of its own.
 fn play_lines(lines: &Lines, mut store: Played) -> Result<(), Stop> {
     let done = lines.play(&mut store);
+    drop(store);
+    done
+}
+
+/// Plays one beside a plain store and a model. In an exact run each commit gives a graph a tree of its own.
+fn play_judged(alloc: Global, lines: &Lines, is_exact: bool) -> Result<(), Stop> {
+    let mut judge = Judge::new(alloc, is_exact, WHOLE, Lie::Nothing);
+    let mut store = Played::whole(alloc)?;
+    let done = play_judged_on(alloc, lines, &mut judge, &mut store);
+    drop(store);
+    done
+}
+
+fn play_judged_on(
+    alloc: Global,
+    lines: &Lines,
+    judge: &mut Judge,
+    store: &mut Played,
+) -> Result<(), Stop> {
+    let mut plain = Played::plain(alloc, WHOLE)?;
+    let done = lines.play_judged(judge, store, &mut plain);
+    drop(plain);
+    done
+}
+
+fn play_beside_writes(alloc: Global) -> Result<(), Stop> {
+    play_judged(alloc, &beside_writes(alloc)?, false)
+}
+
+fn play_beside_kept_writes(alloc: Global) -> Result<(), Stop> {
+    play_judged(alloc, &beside_kept_writes(alloc)?, false)
+}
+
+fn play_two_versions(alloc: Global) -> Result<(), Stop> {
+    play_judged(alloc, &two_versions(alloc)?, true)
+}
+
+fn play_without_lines(alloc: Global) -> Result<(), Stop> {
+    play_judged(alloc, &without_lines(alloc)?, false)
+}
+
+/// Plays that of all seats beside a plain store.
+fn play_seats(alloc: Global) -> Result<(), Stop> {
+    let lines = seat_lines(alloc)?;
+    let mut store = Played::with_seats(alloc)?;
+    let done = play_seats_on(alloc, &lines, &mut store);
+    drop(store);
+    done
+}
+
+fn play_seats_on(alloc: Global, lines: &Lines, store: &mut Played) -> Result<(), Stop> {
+    let mut plain = Played::plain_with_seats(alloc)?;
+    let done = lines.play_beside(store, &mut plain);
+    drop(plain);
+    done
+}
+
+/// Plays a run where memory may be refused, on a store of its own.
+fn play_again(lines: &Lines, mut store: Played) -> Result<(), Stop> {
+    let done = lines.play_again(&mut store);
     drop(store);
     done
 }
@@ -130,17 +201,63 @@ fn play_fixed<W: Write>(alloc: Global, out: &mut W) -> io::Result<()> {
     print_fixed("a POST of 1,000 triples under a read", large, out)?;
     print_fixed("the last node", play_last_node(alloc), out)?;
     print_fixed("a POST to the last node", play_last_posts(alloc), out)?;
-    print_fixed("the last term", play_last_term(alloc), out)
+    print_fixed("the last term", play_last_term(alloc), out)?;
+    let beside = play_beside_writes(alloc);
+    print_fixed("a read of all graphs beside writes", beside, out)?;
+    let kept = play_beside_kept_writes(alloc);
+    print_fixed("the same where nothing is freed", kept, out)?;
+    let two = play_two_versions(alloc);
+    print_fixed("reads of two versions of all graphs", two, out)?;
+    let without = play_without_lines(alloc);
+    print_fixed("graphs without lines", without, out)?;
+    print_fixed("a version for each of 512 seats", play_seats(alloc), out)
+}
+
+/// Plays the worked runs of reads of all graphs where memory may be refused.
+fn play_refused<W: Write>(alloc: Global, out: &mut W) -> io::Result<()> {
+    let beside = play_beside_again(alloc);
+    print_fixed("a read of all graphs beside writes", beside, out)?;
+    let two = play_two_again(alloc);
+    print_fixed("reads of two versions of all graphs", two, out)?;
+    print_fixed("graphs without lines", play_without_again(alloc), out)
+}
+
+fn play_beside_again(alloc: Global) -> Result<(), Stop> {
+    play_again(&beside_writes(alloc)?, Played::whole(alloc)?)
+}
+
+fn play_two_again(alloc: Global) -> Result<(), Stop> {
+    play_again(&two_versions(alloc)?, Played::whole(alloc)?)
+}
+
+fn play_without_again(alloc: Global) -> Result<(), Stop> {
+    play_again(&without_lines(alloc)?, Played::whole(alloc)?)
 }
 
 fn play_all<W: Write>(alloc: Global, out: &mut W) -> io::Result<()> {
     for lie in &LIES {
-        play_wrong(alloc, *lie, out)?;
+        play_wrong(alloc, 0, *lie, out)?;
     }
-    play_drawn(alloc, out)?;
+    play_drawn(alloc, 1, LAST_NARROW, out)?;
+    for lie in &WIDE_LIES {
+        play_wrong(alloc, LAST_NARROW, *lie, out)?;
+    }
+    play_drawn(alloc, LAST_NARROW.saturating_add(1), LAST, out)?;
     play_fixed(alloc, out)
 }
 
+/// Whether the argument `refused` is given.
+fn is_refused(rt: &(impl Env + AllocGlobal)) -> io::Result<bool> {
+    match env::args(rt)?.nth(1) {
+        Some(word) => Ok(word.as_str() == "refused"),
+        None => Ok(false),
+    }
+}
+
 fn main(rt: HostRuntime) -> io::Result<()> {
-    play_all(rt.alloc(), &mut io::writer(&rt))
+    let alloc = rt.alloc();
+    if is_refused(&rt)? {
+        return play_refused(alloc, &mut io::writer(&rt));
+    }
+    play_all(alloc, &mut io::writer(&rt))
 }

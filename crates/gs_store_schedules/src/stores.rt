@@ -1,4 +1,4 @@
-//! The stores that schedules are played on, each of four seats.
+//! The stores that schedules are played on, of four seats or of all that there may be.
 use gs_core::{MAX_NAMES, MAX_TRIPLES, PlainStore, Store};
 use gs_drawn_events::BASE;
 use gs_drawn_schedules::{Counts, Subject};
@@ -36,7 +36,18 @@ impl Played {
         Ok(Played::Whole(Store::new(alloc, 4, BASE)?))
     }
 
-    /// The same, whose last node and last term have these numbers.
+    /// The same of 512 seats.
+    pub fn with_seats(alloc: Global) -> Result<Played, Refusal> {
+        Ok(Played::Whole(Store::new(alloc, 512, BASE)?))
+    }
+
+    /// A new plain store of as many, which holds as much.
+    pub fn plain_with_seats(alloc: Global) -> Result<Played, Refusal> {
+        let store = PlainStore::starting_at(alloc, 512, BASE, WHOLE, 0, 0)?;
+        Ok(Played::Plain(store))
+    }
+
+    /// A new store of four seats, whose last node and last term have these numbers.
     pub fn with_last(alloc: Global, node: u32, term: u32) -> Result<Played, Refusal> {
         let store = Store::with_last(alloc, 4, BASE, node, term)?;
         Ok(Played::Whole(store))

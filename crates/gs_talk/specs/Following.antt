@@ -48,12 +48,12 @@ erased_by p = []
 
 -- a look
 abbrev pub looked_by : Plan → List Point
-looked_by (Looks t) = (0, operation.Looks t) ∷ []
+looked_by (Looks c) = (0, operation.Looks c) ∷ []
 looked_by p = []
 
 -- a read
 abbrev pub read_by : Plan → List Point
-read_by (Reads t) = (0, operation.Reads t) ∷ []
+read_by (Reads c) = (0, operation.Reads c) ∷ []
 read_by p = []
 
 -- what the abstract store was asked by the end of a course, with the number of the request

@@ -17,8 +17,8 @@ abbrev pub IsAskedBy : List ℕ → Asked → List ℕ → Plan → Point → Ty
 IsAskedBy base a body (Uploads k) q = (g : List RdfTriple) × States base a q.0 body g × (q.1 ≡ write_of k q.0 (graph_of g))
 IsAskedBy base a body (Patches t) q = (ops : List Op) × Orders base a q.0 body ops × (q.1 ≡ operation.Patches t ops)
 IsAskedBy base a body (Deletes t) q = q.1 ≡ operation.Deletes t
-IsAskedBy base a body (Looks t) q = q.1 ≡ operation.Looks t
-IsAskedBy base a body (Reads t) q = q.1 ≡ operation.Reads t
+IsAskedBy base a body (Looks c) q = q.1 ≡ operation.Looks c
+IsAskedBy base a body (Reads c) q = q.1 ≡ operation.Reads c
 IsAskedBy base a body p q = ⊥
 
 -- a request whose body is whole asks it; no other asks anything

@@ -16,7 +16,7 @@ SeatPhase = Phase (Unit {0})
 
 -- after one more
 abbrev pub phase_then : SeatPhase → Action × Answer → SeatPhase
-phase_then p d = phase_after (λ t. tt) (λ left n. left) p d.0 d.1
+phase_then p d = phase_after (λ c. tt) (λ left n. left) p d.0 d.1
 
 -- after these
 abbrev pub phase_in : SeatPhase → Deeds → SeatPhase

@@ -1,6 +1,6 @@
 //! Events of worked schedules, from their lines.
 use crate::notation::{operations, triples};
-use gs_event::{Action, Event, UploadKind};
+use gs_event::{Action, Event, Scope, UploadKind};
 use gs_model::Refusal;
 use gs_term::{GraphName, Target};
 use std::alloc::Global;
@@ -11,6 +11,13 @@ fn target(alloc: Global, word: &str) -> Result<Target, Refusal> {
     }
     let name = word.trim_start_matches('<').trim_end_matches('>');
     Ok(Target::Named(GraphName::new(alloc, name)?))
+}
+
+fn scope(alloc: Global, word: &str) -> Result<Scope, Refusal> {
+    if word == "all" {
+        return Ok(Scope::All);
+    }
+    Ok(Scope::One(target(alloc, word)?))
 }
 
 fn kind(alloc: Global, word: &str, name: &str) -> Result<UploadKind, Refusal> {
@@ -31,8 +38,8 @@ fn action(alloc: Global, words: &[&str]) -> Result<Action, Refusal> {
         "open" => Ok(Action::Open(kind(alloc, next, last)?)),
         "commit" => Ok(Action::Commit),
         "delete" => Ok(Action::Delete(target(alloc, next)?)),
-        "head" => Ok(Action::Head(target(alloc, next)?)),
-        "pin" => Ok(Action::Pin(target(alloc, next)?)),
+        "head" => Ok(Action::Head(scope(alloc, next)?)),
+        "pin" => Ok(Action::Pin(scope(alloc, next)?)),
         "piece" => Ok(Action::Piece(next.parse::<u32>().unwrap_or_default())),
         _ => Ok(Action::Cancel),
     }

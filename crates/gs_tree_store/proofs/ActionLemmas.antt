@@ -1,15 +1,17 @@
--- What a Cancel makes of the books and of the seat.
-use Rattle.std.proofs.Common.{◌≡◌, ℕ, List, ◌∷◌, length, get_or, Option, None, refl, sym, ap, subst, ◌∙◌}
-use Rattle.std.specs.List.{count_by}
-use Rattle.std.proofs.lemmas.List.{length-map}
+-- What the Open of an upload makes of the books and of the seat, and what a Cancel does.
+use Rattle.std.proofs.Common.{◌≡◌, ◌+◌, ◌<◌, ℕ, List, ◌∷◌, length, get_or, Option, None, refl, sym, ap, subst, ◌∙◌, add-zero}
+use Rattle.std.specs.List.{All, count_by}
+use Rattle.std.proofs.lemmas.List.{length-map, set-get_or}
 use Rattle.std.proofs.lemmas.List.Elements.{All-head}
 use Rattle.std.specs.Prelude.{is_some, slice_index_or}
 use Rattle.gs_model.specs.Terms.{Term}
-use Rattle.gs_model.specs.Graphs.{size_of}
+use Rattle.gs_model.specs.Graphs.{empty_graph, size_of}
+use Rattle.gs_model.specs.Limits.{last_number}
 use Rattle.gs_term.specs.declared.names.Target.{Target}
 use Rattle.gs_event.specs.declared.events.UploadKind.{UploadKind}
-use Rattle.gs_event.specs.declared.events.Action.TheVariants.{Cancel}
-use Rattle.gs_event.specs.declared.answers.Answer.TheVariants.{Cancelled}
+use Rattle.gs_event.specs.declared.events.Action.TheVariants.{Open, Cancel}
+use Rattle.gs_event.specs.declared.answers.Answer.TheVariants.{Opened, Cancelled}
+use Rattle.gs_event.specs.Phases as phase
 use Rattle.gs_event.specs.Steps.{Joins, IsUnreached}
 use Rattle.gs_pool.specs.declared.nodes.Key.{Key}
 use Rattle.gs_pool.specs.Pool.{Nodes, aside_count}
@@ -19,9 +21,12 @@ use Rattle.gs_keys.specs.Roots.{graph_of_root}
 use Rattle.gs_keys.proofs.KeyLemmas.{triples_of_keys}
 use Rattle.gs_staging.proofs.KeyLemmas.{still_grows}
 use Rattle.gs_catalogue.specs.declared.versions.GraphVersion.{GraphVersion}
+use Rattle.gs_catalogue.specs.Catalogues.{empty_version}
 use Rattle.gs_versions.specs.Pins.{Pins, with_pin}
 use Rattle.gs_records.specs.Records.{Recorded}
+use Rattle.gs_records.specs.Calls.{Opens}
 use Rattle.gs_reclaim.specs.Reclaims.{CanRetireRoot}
+use Rattle.gs_quads.specs.Places.{Place}
 use Rattle.gs_ledger.specs.Marks.{dead_at, waste_at}
 use Rattle.gs_ledger.specs.Ledger.{IsLedger}
 use Rattle.gs_commit.specs.Commits.{DropsAll}
@@ -29,14 +34,58 @@ use Rattle.gs_commit.specs.Laws.{IsRetirable}
 use Rattle.gs_commit.proofs.DeadLemmas.{tree_at_same}
 use Rattle.gs_commit.proofs.RootLemmas.{ledger_retirable}
 use Rattle.gs_commit.proofs.LawLemmas.{leaf_upload}
-use Rattle.gs_datasets.specs.Standing.{all_versions, graph_trees, IsVersion}
+use Rattle.gs_datasets.specs.Standing.{dataset_at, all_versions, graph_trees, IsVersion}
 use Rattle.gs_tree_store.specs.declared.books.Books.{Books}
 use Rattle.gs_tree_store.specs.declared.books.Seat.{Seat}
-use Rattle.gs_tree_store.specs.declared.books.Seat.TheVariants.{Idle, Writing, Patching, Reading}
-use Rattle.gs_tree_store.specs.Books.{graphs_of, IsReady}
+use Rattle.gs_tree_store.specs.declared.books.Seat.TheVariants.{Idle, Writing, Patching, Reading, ReadingAll}
+use Rattle.gs_tree_store.specs.Books.{graphs_of, books_setting, IsReady}
 use Rattle.gs_tree_store.specs.Actions.{Acts}
+use Rattle.gs_tree_store.proofs.CommitLemmas.{empty_is}
 use Rattle.gs_tree_store.proofs.AlikeLemmas.{SameNow, acts_alike}
-use Rattle.gs_tree_store.proofs.SeatLemmas.{still_unpinned, same_totals, same_graphs, ledger_stays, read_ends}
+use Rattle.gs_tree_store.proofs.SeatLemmas.{still_unpinned, same_totals, same_graphs, still_sound, ledger_stays, read_ends}
+
+-- an upload is opened
+opened_now : (b : Books) (s : ℕ) (k : UploadKind) (n : ℕ) (x : Recorded) → b.request < last_number → Opens b.records x n → IsReady b s Idle
+    → Acts b (record b { request = b.request + 1; records = x }) s Idle (Writing k (b.request + 1) empty_version n) (Open k) (Opened (b.request + 1))
+opened_now b s k n x number opens ready =
+    let p = b.pool in
+    let terms = b.dict.terms in
+    let g = graphs_of b in
+    let new : Books = record b { request = b.request + 1; records = x } in
+    let now : graphs_of new ≡ g = opens.graphs.now in
+    let none : graph_of_root terms p None ≡ empty_graph = refl in
+    let sound = ready.sound in
+    record {
+      fits = (number, refl);
+      totals = λ i. record { setting = books_setting b; dataset = dataset_at terms p (now i); request = b.request + 1; commit = sym (add-zero b.versions.commit) i };
+      seat = ap (λ h. phase.Writing k (b.request + 1) h) none;
+      pins = sym (set-get_or b.versions.seats s None);
+      sound = record {
+        versions = subst (λ h. All (IsVersion terms p) (all_versions h)) (sym now) sound.versions;
+        none_aside = sound.none_aside;
+        commit = sound.commit;
+        latest = opens.latest ∙ sound.latest;
+        numbers = opens.limit ∙ sound.numbers;
+        base = sound.base;
+      };
+      known = empty_is terms p;
+      version = tt;
+      grows = still_grows b.dict b.dict refl;
+      ledgers = λ us rs l. record {
+        ledger = ledger_stays new s (Writing k (b.request + 1) empty_version n) us rs l.read l.there (subst (λ h. IsLedger p b.versions (graph_trees p h) (leaf ∷ us) rs (dead_at p)) (sym now) l.ledger);
+        waste = refl;
+      };
+      takes = refl;
+    }
+
+pub upload_opened : (b : Books) (s : ℕ) (seat : Seat) (k j : UploadKind) (v : GraphVersion) (n : ℕ) (x : Recorded) → seat ≡ Idle → j ≡ k → v ≡ empty_version → b.request < last_number → Opens b.records x n → IsReady b s seat
+    → Acts b (record b { request = b.request + 1; records = x }) s seat (Writing j (b.request + 1) v n) (Open k) (Opened (b.request + 1))
+upload_opened b s seat k j v n x idle same none number opens =
+    let new : Books = record b { request = b.request + 1; records = x } in
+    subst (λ y. IsReady b s y → Acts b new s y (Writing j (b.request + 1) v n) (Open k) (Opened (b.request + 1))) (sym idle)
+    (λ ready.
+    subst (λ y. Acts b new s Idle (Writing y (b.request + 1) v n) (Open k) (Opened (b.request + 1))) (sym same)
+    (subst (λ y. Acts b new s Idle (Writing k (b.request + 1) y n) (Open k) (Opened (b.request + 1))) (sym none) (opened_now b s k n x number opens ready)))
 
 -- the tree of an upload can be retired
 pub upload_retirable : (b : Books) (s : ℕ) (seat : Seat) (k : UploadKind) (r : ℕ) (v : GraphVersion) (o : ℕ) → seat ≡ Writing k r v o → IsReady b s seat → CanRetireRoot b.pool v.root
@@ -72,6 +121,7 @@ upload_dropped b s k r v o q nodes aside drops ready =
       pins = still_unpinned b s (Writing k r v o) refl ready;
       sound = kept.sound;
       known = tt;
+      version = tt;
       grows = grows;
       ledgers = λ us rs l.
           let dropped = drops b.versions gs us rs l.ledger in
@@ -88,7 +138,7 @@ pub upload_cancelled : (b c : Books) (s : ℕ) (seat : Seat) (k : UploadKind) (r
 upload_cancelled b c s seat k r v o q x writes is same nodes aside drops =
     subst (λ y. IsReady b s y → Acts b c s y Idle Cancel Cancelled) (sym writes)
     (λ ready. subst (λ y. Acts b y s (Writing k r v o) Idle Cancel Cancelled) (sym is)
-    (acts_alike (record b { pool = q }) x same b s (Writing k r v o) Idle Cancel Cancelled (upload_dropped b s k r v o q nodes aside drops ready)))
+    (acts_alike (record b { pool = q }) x same b s (Writing k r v o) Cancel Cancelled (upload_dropped b s k r v o q nodes aside drops ready)))
 
 -- a patch is given up
 patch_dropped : (b : Books) (s : ℕ) (t : Target) (r o : ℕ) → IsReady b s (Patching t r o) → Acts b b s (Patching t r o) Idle Cancel Cancelled
@@ -99,6 +149,7 @@ patch_dropped b s t r o ready = record {
   pins = still_unpinned b s (Patching t r o) refl ready;
   sound = ready.sound;
   known = tt;
+  version = tt;
   grows = still_grows b.dict b.dict refl;
   ledgers = λ us rs l. record { ledger = ledger_stays b s Idle us rs l.read l.there l.ledger; waste = refl };
   takes = refl;
@@ -107,7 +158,7 @@ patch_dropped b s t r o ready = record {
 pub patch_cancelled : (b c : Books) (s : ℕ) (seat : Seat) (t : Target) (r o : ℕ) (x : Recorded) → seat ≡ Patching t r o → c ≡ record b { records = x } → SameNow b.records x → IsReady b s seat → Acts b c s seat Idle Cancel Cancelled
 patch_cancelled b c s seat t r o x patches is same =
     subst (λ y. IsReady b s y → Acts b c s y Idle Cancel Cancelled) (sym patches)
-    (λ ready. subst (λ y. Acts b y s (Patching t r o) Idle Cancel Cancelled) (sym is) (acts_alike b x same b s (Patching t r o) Idle Cancel Cancelled (patch_dropped b s t r o ready)))
+    (λ ready. subst (λ y. Acts b y s (Patching t r o) Idle Cancel Cancelled) (sym is) (acts_alike b x same b s (Patching t r o) Cancel Cancelled (patch_dropped b s t r o ready)))
 
 -- a read is given up
 read_dropped : (b : Books) (s : ℕ) (root : Option ℕ) (last : Option Key) → IsReady b s (Reading root last) → Acts b (record b { versions = with_pin b.versions s None }) s (Reading root last) Idle Cancel Cancelled
@@ -116,10 +167,11 @@ read_dropped b s root last ready = record {
   totals = same_totals b (record b { versions = with_pin b.versions s None }) refl refl refl refl;
   seat = refl;
   pins = refl;
-  sound = record { versions = ready.sound.versions; none_aside = ready.sound.none_aside; commit = ready.sound.commit; latest = ready.sound.latest; base = ready.sound.base };
+  sound = still_sound b s None ready.sound;
   known = tt;
+  version = tt;
   grows = still_grows b.dict b.dict refl;
-  ledgers = λ us rs l. record { ledger = read_ends b s root last us rs ready.there l; waste = refl };
+  ledgers = λ us rs l. record { ledger = read_ends b s us rs ready.there l.there l.ledger; waste = refl };
   takes = refl;
 }
 
@@ -127,3 +179,23 @@ pub read_cancelled : (b c : Books) (s : ℕ) (seat : Seat) (root : Option ℕ) (
 read_cancelled b c s seat root last w reads is pin =
     subst (λ x. IsReady b s x → Acts b c s x Idle Cancel Cancelled) (sym reads)
     (λ ready. subst (λ y. Acts b y s (Reading root last) Idle Cancel Cancelled) (sym (is ∙ ap (λ (x : Pins). record b { versions = x }) pin)) (read_dropped b s root last ready))
+
+-- a read of all graphs is given up
+all_dropped : (b : Books) (s v : ℕ) (last : Option Place) → IsReady b s (ReadingAll v last) → Acts b (record b { versions = with_pin b.versions s None }) s (ReadingAll v last) Idle Cancel Cancelled
+all_dropped b s v last ready = record {
+  fits = tt;
+  totals = same_totals b (record b { versions = with_pin b.versions s None }) refl refl refl refl;
+  seat = refl;
+  pins = refl;
+  sound = still_sound b s None ready.sound;
+  known = tt;
+  version = tt;
+  grows = still_grows b.dict b.dict refl;
+  ledgers = λ us rs l. record { ledger = read_ends b s us rs ready.there l.there l.ledger; waste = refl };
+  takes = refl;
+}
+
+pub all_cancelled : (b c : Books) (s : ℕ) (seat : Seat) (v : ℕ) (last : Option Place) (w : Pins) → seat ≡ ReadingAll v last → c ≡ record b { versions = w } → w ≡ with_pin b.versions s None → IsReady b s seat → Acts b c s seat Idle Cancel Cancelled
+all_cancelled b c s seat v last w reads is pin =
+    subst (λ x. IsReady b s x → Acts b c s x Idle Cancel Cancelled) (sym reads)
+    (λ ready. subst (λ y. Acts b y s (ReadingAll v last) Idle Cancel Cancelled) (sym (is ∙ ap (λ (x : Pins). record b { versions = x }) pin)) (all_dropped b s v last ready))

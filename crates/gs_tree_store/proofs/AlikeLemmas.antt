@@ -1,8 +1,9 @@
 -- Books whose records are others, with the same graphs of now.
-use Rattle.std.proofs.Common.{◌≡◌, ℕ, ◌∷◌, set, sym, ap, subst, ◌∙◌}
+use Rattle.std.proofs.Common.{◌≡◌, ℕ, [], ◌∷◌, set, sym, ap, subst, ◌∙◌}
 use Rattle.std.specs.List.{All}
 use Rattle.gs_event.specs.declared.events.Action.{Action}
 use Rattle.gs_event.specs.declared.answers.Answer.{Answer}
+use Rattle.gs_tree.specs.Tree.{leaf}
 use Rattle.gs_ledger.specs.Marks.{dead_at}
 use Rattle.gs_ledger.specs.Ledger.{IsLedger}
 use Rattle.gs_datasets.specs.Standing.{dataset_at, all_versions, graph_trees, IsVersion}
@@ -11,17 +12,19 @@ use Rattle.gs_records.specs.Graphs.{current}
 use Rattle.gs_records.specs.Calls.{GivesUp}
 use Rattle.gs_tree_store.specs.declared.books.Books.{Books}
 use Rattle.gs_tree_store.specs.declared.books.Seat.{Seat}
-use Rattle.gs_tree_store.specs.Books.{books_setting, dataset_of, upload_tree, read_trees, IsSound}
+use Rattle.gs_tree_store.specs.declared.books.Seat.TheVariants.{Idle}
+use Rattle.gs_tree_store.specs.Books.{books_setting, dataset_of, IsSound}
 use Rattle.gs_tree_store.specs.Actions.{Acts}
 
 -- the graphs of now and the last commit are the same
 pub record SameNow (x y : Recorded) : Type 0 where
   pub graphs : current y.records ≡ current x.records
   pub latest : y.latest ≡ x.latest
+  pub limit : y.limit ≡ x.limit
 
 -- giving a record up leaves them
 pub gives_up_same : (x y : Recorded) (n : ℕ) → GivesUp x y n → SameNow x y
-gives_up_same x y n gives = record { graphs = gives.graphs.now; latest = gives.latest }
+gives_up_same x y n gives = record { graphs = gives.graphs.now; latest = gives.latest; limit = gives.limit }
 
 -- the books with other records
 abbrev pub with_records : Books → Recorded → Books
@@ -37,24 +40,26 @@ module _ (c : Books) (r : Recorded) (same : SameNow c.records r) where
     none_aside = sound.none_aside;
     commit = sound.commit;
     latest = same.latest ∙ sound.latest;
+    numbers = same.limit ∙ sound.numbers;
     base = sound.base;
   }
 
-  -- an action makes such books of others where it makes these of them
-  pub acts_alike : (b : Books) (s : ℕ) (was now : Seat) (action : Action) (answer : Answer) → Acts b c s was now action answer → Acts b (with_records c r) s was now action answer
-  acts_alike b s was now action answer acts = record {
+  -- an action after which its seat is idle makes such books of others where it makes these of them
+  pub acts_alike : (b : Books) (s : ℕ) (was : Seat) (action : Action) (answer : Answer) → Acts b c s was Idle action answer → Acts b (with_records c r) s was Idle action answer
+  acts_alike b s was action answer acts = record {
     fits = acts.fits;
     totals = (λ i. record { setting = books_setting c; dataset = alike_dataset i; request = c.request; commit = c.versions.commit }) ∙ acts.totals;
     seat = acts.seat;
     pins = acts.pins;
     sound = alike_sound acts.sound;
-    known = acts.known;
+    known = tt;
+    version = tt;
     grows = acts.grows;
     ledgers = λ us rs l.
         let on = acts.ledgers us rs l in
         record {
           ledger = record {
-            ledger = subst (λ g. IsLedger c.pool c.versions (graph_trees c.pool g) (upload_tree c.pool now ∷ us) (set rs s (read_trees c.pool now)) (dead_at c.pool)) (sym same.graphs) on.ledger.ledger;
+            ledger = subst (λ g. IsLedger c.pool c.versions (graph_trees c.pool g) (leaf ∷ us) (set rs s []) (dead_at c.pool)) (sym same.graphs) on.ledger.ledger;
             there = on.ledger.there;
             read = on.ledger.read;
           };

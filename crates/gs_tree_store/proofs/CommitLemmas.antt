@@ -5,7 +5,7 @@ use Rattle.std.proofs.lemmas.List.Elements.{All-head, Contains-get_or}
 use Rattle.gs_model.specs.Terms.{Term}
 use Rattle.gs_model.specs.Bases.{is_base}
 use Rattle.gs_model.specs.Graphs.{empty_graph}
-use Rattle.gs_model.specs.Limits.{last_number}
+use Rattle.gs_model.specs.Limits.{last_number, last_node}
 use Rattle.gs_term.specs.declared.names.Target.{Target}
 use Rattle.gs_term.specs.declared.names.Target.TheVariants.{Default, Named}
 use Rattle.gs_event.specs.Datasets.{with_graph, size_at}
@@ -39,10 +39,10 @@ use Rattle.gs_commit.proofs.RootLemmas.{ledger_retirable}
 use Rattle.gs_commit.proofs.LawLemmas.{leaf_upload}
 use Rattle.gs_tree_store.specs.declared.books.Books.{Books}
 use Rattle.gs_tree_store.specs.Books.{graphs_of, dataset_of, totals_of, IsFound, IsSound, HasLedger}
-use Rattle.gs_tree_store.specs.Opened.{SameOpened}
+use Rattle.gs_tree_store.specs.Opened.{IsOpened, SameOpened}
 use Rattle.gs_tree_store.specs.Writes.{KeepsBooks, EndsOneVersion, Puts, Removes}
 use Rattle.gs_tree_store.proofs.RecordLemmas.{commit_wastes}
-use Rattle.gs_tree_store.proofs.OpenedLemmas.{put_lets_go}
+use Rattle.gs_tree_store.proofs.OpenedLemmas.{AllSame, all_put, put_lets_go}
 
 -- the version of a target, an empty one where it is missing
 abbrev pub version_or : GraphVersions → Target → GraphVersion
@@ -145,9 +145,14 @@ kept_books old new root e = record {
   nodes = e.nodes;
 }
 
+-- the records are as the last commit left them, and there may be as many as before
+pub record IsLast (b : Books) : Type 0 where
+  pub latest : b.records.latest ≡ b.versions.commit
+  pub numbers : b.records.limit ≡ last_node + 1
+
 -- The books before a commit, and after it, where the graphs are g.
 module _ (old new : Books) (t : Target) (e : EndsTree old new (version_or (graphs_of old) t).root) (sound : IsSound old) (number : old.versions.commit < last_number) (g : GraphVersions) (written : graphs_of new ≡ g)
-    (latest : new.records.latest ≡ new.versions.commit) where
+    (latest : IsLast new) where
   others_same : AreSameIn old.pool new.pool (other_versions (graphs_of old) t)
   others_same = λ k d h. roots_same old.pool new.pool e.nodes (get_or (other_versions (graphs_of old) t) k d).root
 
@@ -159,7 +164,8 @@ module _ (old new : Books) (t : Target) (e : EndsTree old new (version_or (graph
     versions = subst (λ d. All (IsVersion d.terms new.pool) (all_versions (graphs_of new))) (sym e.dict) (subst (λ h. All (IsVersion old.dict.terms new.pool) (all_versions h)) (sym written) all);
     none_aside = e.aside ∙ sound.none_aside;
     commit = omega (arith, ap (λ (v : Pins). v.commit) e.commit, number);
-    latest = latest;
+    latest = latest.latest;
+    numbers = latest.numbers;
     base = subst (λ x. is_base x ≡ true) (sym e.base) sound.base;
   }
 
@@ -184,7 +190,7 @@ record Sets (old new : Books) (t : Target) (u : GraphVersion) : Type 0 where
   pub sound : IsSound new
   pub ledgers : (us : List Tree) (rs : List (List Tree)) → HasLedger old (tree_at old.pool u.root ∷ us) rs → EndsOneVersion old new (size_at (dataset_of old) t) us rs
 
-version_set : (old new : Books) (t : Target) (u : GraphVersion) → EndsTree old new (version_or (graphs_of old) t).root → graphs_of new ≡ with_version (graphs_of old) t u → new.records.latest ≡ new.versions.commit
+version_set : (old new : Books) (t : Target) (u : GraphVersion) → EndsTree old new (version_or (graphs_of old) t).root → graphs_of new ≡ with_version (graphs_of old) t u → IsLast new
     → IsSound old → IsVersion old.dict.terms old.pool u → old.versions.commit < last_number → Sets old new t u
 version_set old new t u e graphs latest sound is number =
     let terms = old.dict.terms in
@@ -205,10 +211,10 @@ version_set old new t u e graphs latest sound is number =
     }
 
 -- the target has the upload's version, and the open record of number n is that of it
-pub put_made : (old new : Books) (n : ℕ) (t : Target) (u : GraphVersion) (commit : ℕ) → EndsTree old new (version_or (graphs_of old) t).root → MakesCurrent old.records new.records n t u commit → commit ≡ new.versions.commit
+pub put_made : (old new : Books) (n : ℕ) (t : Target) (u : GraphVersion) (commit : ℕ) → EndsTree old new (version_or (graphs_of old) t).root → MakesCurrent old.records new.records n t u commit → commit ≡ new.versions.commit → IsOpened old n
     → IsSound old → IsVersion old.dict.terms old.pool u → old.versions.commit < last_number → Puts old new n t u
-put_made old new n t u commit e puts last sound is number =
-    let sets = version_set old new t u e puts.now (puts.latest ∙ last) sound is number in
+put_made old new n t u commit e puts last was sound is number =
+    let sets = version_set old new t u e puts.now (record { latest = puts.latest ∙ last; numbers = puts.limit ∙ sound.numbers }) sound is number in
     let next : commit ≡ old.versions.commit + 1 = last ∙ ap (λ (v : Pins). v.commit) e.commit in
     record {
       dataset = sets.dataset;
@@ -216,6 +222,7 @@ put_made old new n t u commit e puts last sound is number =
       sound = sets.sound;
       ledgers = sets.ledgers;
       lets_go = put_lets_go old new n t u commit puts;
+      same = all_put old new n t u commit (omega (arith, next)) was puts;
       counts = puts.counts;
       waste = commit_wastes old new n t u (graph_of_root old.dict.terms old.pool u.root) commit next puts sound sets.sound sets.dataset;
     }
@@ -225,7 +232,7 @@ leaf_ends : (old new : Books) (size : ℕ) → ((us : List Tree) (rs : List (Lis
 leaf_ends old new size ends us rs l = ends us rs ((leaf_upload old.pool old.versions (graph_trees old.pool (graphs_of old)) us rs (dead_at old.pool)).0 l)
 
 -- The version of the target's graph ended.
-module _ (old new : Books) (latest : new.records.latest ≡ new.versions.commit) (same : SameOpened old new) (counts : KeepsCounts old.records.records new.records.records) (sound : IsSound old) (number : old.versions.commit < last_number) where
+module _ (old new : Books) (latest : IsLast new) (same : SameOpened old new) (stays : AllSame old new) (counts : KeepsCounts old.records.records new.records.records) (sound : IsSound old) (number : old.versions.commit < last_number) where
   -- what it makes of the waste of records
   abbrev Wastes : Target → Type 0
   Wastes t = DeleteRecords (totals_of old) t true (waste_in old.records.records) (waste_in new.records.records)
@@ -242,6 +249,7 @@ module _ (old new : Books) (latest : new.records.latest ≡ new.versions.commit)
         sound = sets.sound;
         ledgers = leaf_ends old new (size_at (dataset_of old) Default) sets.ledgers;
         same_opened = same;
+        same = stays;
         counts = counts;
         waste = wastes;
       }
@@ -262,6 +270,7 @@ module _ (old new : Books) (latest : new.records.latest ≡ new.versions.commit)
         sound = sound_now old new t e sound number h graphs latest takes.versions;
         ledgers = leaf_ends old new (size_at (dataset_of old) t) (ends_now old new t e sound number h graphs latest leaf takes.trees);
         same_opened = same;
+        same = stays;
         counts = counts;
         waste = wastes;
       }

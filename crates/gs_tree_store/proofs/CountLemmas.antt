@@ -22,8 +22,9 @@ use Rattle.gs_records.specs.Waste.{waste_in, used_count}
 use Rattle.gs_records.specs.Uses.{records_of_graphs, AreUsed}
 use Rattle.gs_datasets.specs.Standing.{dataset_at, all_versions, version_tree, graph_trees, IsVersion}
 use Rattle.gs_datasets.proofs.Sizes.{triples_in-is, names_in-is}
+use Rattle.gs_records.specs.Records.{Recorded}
 use Rattle.gs_tree_store.specs.declared.books.Seat.{Seat}
-use Rattle.gs_tree_store.specs.declared.books.Seat.TheVariants.{Idle, Writing, Patching, Reading}
+use Rattle.gs_tree_store.specs.declared.books.Seat.TheVariants.{Idle, Writing, Patching, Reading, ReadingAll}
 use Rattle.gs_tree_store.specs.declared.stores.TreeStore.TheInside.{Inside}
 use Rattle.gs_tree_store.specs.Books.{graphs_of, seat_shown, upload_tree, read_trees, IsSeat}
 use Rattle.gs_tree_store.specs.Opened.{own_count}
@@ -64,24 +65,25 @@ module _ (terms : List Term) (p : Nodes) where
         entries_count (fin.entries g.named) (All-tail (IsVersion terms p) g.unnamed vs all),
       )
 
-  seat_keys : (s : Seat) → IsSeat terms p s → held_at (seat_shown terms p s) ≡ length (keys (upload_tree p s)) + own_count s
-  seat_keys Idle is = refl
-  seat_keys (Writing k r v o) is =
+  seat_keys : (rs : Recorded) (s : Seat) → IsSeat terms p rs s → held_at (seat_shown terms p rs s) ≡ length (keys (upload_tree p s)) + own_count s
+  seat_keys rs Idle is = refl
+  seat_keys rs (Writing k r v o) is =
       let ks = keys (tree_at p v.root) in
       ap (λ n. n + 1) (ap length (triples_of_keys terms ks is.keyed.rising is.keyed.given) ∙ length-map ks (triple_at terms))
-  seat_keys (Patching t r o) is = refl
-  seat_keys (Reading root last) is = refl
+  seat_keys rs (Patching t r o) is = refl
+  seat_keys rs (Reading root last) is = refl
+  seat_keys rs (ReadingAll v last) is = refl
 
   -- what all seats have open: a node for each triple that was staged, and the records
-  seats_hold : (seats : List Seat) → All (IsSeat terms p) seats → held_in (map (seat_shown terms p) seats) ≡ keys_in (map (upload_tree p) seats) + sum_by own_count seats
-  seats_hold [] all = refl
-  seats_hold (s ∷ seats) all = omega (
+  seats_hold : (rs : Recorded) (seats : List Seat) → All (IsSeat terms p rs) seats → held_in (map (seat_shown terms p rs) seats) ≡ keys_in (map (upload_tree p) seats) + sum_by own_count seats
+  seats_hold rs [] all = refl
+  seats_hold rs (s ∷ seats) all = omega (
     arith,
-    sum_by-cons (λ (x : SeatView). held_at x) (seat_shown terms p s) (map (seat_shown terms p) seats),
+    sum_by-cons (λ (x : SeatView). held_at x) (seat_shown terms p rs s) (map (seat_shown terms p rs) seats),
     sum_by-cons (λ (t : Tree). length (keys t)) (upload_tree p s) (map (upload_tree p) seats),
-    seat_keys s (All-head (IsSeat terms p) s seats all),
+    seat_keys rs s (All-head (IsSeat terms p rs) s seats all),
     sum_by-cons own_count s seats,
-    seats_hold seats (All-tail (IsSeat terms p) s seats all),
+    seats_hold rs seats (All-tail (IsSeat terms p rs) s seats all),
   )
 
 module _ (a : Inside) (kept : IsKept a) where
@@ -92,7 +94,7 @@ module _ (a : Inside) (kept : IsKept a) where
       let xs = a.seats.items in
       omega (
         arith,
-        (nodes_counted p a.books.versions (graph_trees p g) (map (upload_tree p) xs) (map (read_trees p) xs) (dead_at p) kept.ledger).nodes,
+        (nodes_counted p a.books.versions (graph_trees p g) (map (upload_tree p) xs) (map (read_trees p a.books.records) xs) (dead_at p) kept.ledger).nodes,
         graph_keys a.books.dict.terms p g kept.sound.versions,
       )
 
@@ -107,7 +109,7 @@ module _ (a : Inside) (kept : IsKept a) where
       ∙ (λ i.
       sym (triples_in-is terms b.pool (graphs_of b) kept.sound.versions) i
       + sym (records_in-is terms b.pool (graphs_of b) kept.sound.versions) i
-      + sym (seats_hold terms b.pool a.seats.items kept.known) i
+      + sym (seats_hold terms b.pool b.records a.seats.items kept.known) i
       + sym (length-append (waste_at b.pool) (waste_in b.records.records)) i)
 
   -- the triples of all graphs are no more than these

@@ -95,11 +95,16 @@ with_draft b d r w c = record b { dict = d; pool = r; versions = w; records = c 
 fewer : (commit n most : ℕ) (old new : List Lifetime) → n ≤ most → Joins (EndsAt commit) n old new → Joins (EndsAt commit) most old new
 fewer commit n most old new few j = record { more = j.more; few = omega (arith, few, j.few); same = j.same; ended = j.ended }
 
+-- the last commit of the records has this number, and there may be as many as before
+pub record IsNext (x c : Recorded) (birth : ℕ) : Type 0 where
+  pub latest : c.latest ≡ birth
+  pub limit : c.limit ≡ x.limit
+
 -- The draft v of the target's graph is kept.
 module _ (b : Books) (d : Numbered) (q r : Nodes) (w : Pins) (c : Recorded) (t : Target) (v : GraphVersion) (g : Graph) (birth most : ℕ)
     (born : birth ≡ b.versions.commit + 1) (grows : Grows b.dict d) (made : Drafts birth d.terms b.pool q (version_or (graphs_of b) t) v g most)
     (keeps : KeepsDraftAll b.versions w q r) (commit : w ≡ at_commit b.versions (b.versions.commit + 1)) (nodes : r.nodes ≡ q.nodes) (none : aside_count r ≡ 0)
-    (written : current c.records ≡ with_version (graphs_of b) t v) (latest : c.latest ≡ birth) (number : b.versions.commit < last_number) (sound : IsSound b) where
+    (written : current c.records ≡ with_version (graphs_of b) t v) (latest : IsNext b.records c birth) (number : b.versions.commit < last_number) (sound : IsSound b) where
   ends : (us : List Tree) (rs : List (List Tree)) → HasLedger b us rs → KeepsDraft b.versions w b.pool q r (tree_at q v.root) (other_trees b.pool (graphs_of b) t) us rs
   ends us rs l =
       let old = tree_at b.pool (version_or (graphs_of b) t).root in
@@ -132,7 +137,8 @@ module _ (b : Books) (d : Numbered) (q r : Nodes) (w : Pins) (c : Recorded) (t :
       versions = subst (λ ts. All (IsVersion ts r) (all_versions (current c.records))) (sym grows.terms) (subst (λ g. All (IsVersion (b.dict.terms ++ grows.more) r) (all_versions g)) (sym written) sets.versions);
       none_aside = none;
       commit = omega (arith, ap (λ (x : Pins). x.commit) commit, number);
-      latest = latest ∙ born ∙ sym (ap (λ (x : Pins). x.commit) commit);
+      latest = latest.latest ∙ born ∙ sym (ap (λ (x : Pins). x.commit) commit);
+      numbers = latest.limit ∙ sound.numbers;
       base = sound.base;
     }
 

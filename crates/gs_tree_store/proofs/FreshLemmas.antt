@@ -7,7 +7,7 @@ use Rattle.std.proofs.lemmas.List.Elements.{All-nil, All-cons, All-map, All-repl
 use Rattle.std.proofs.lemmas.List.Sums.{sum_by-cons}
 use Rattle.std.proofs.lemmas.Option.{none-some}
 use Rattle.gs_model.specs.Bases.{is_base}
-use Rattle.gs_model.specs.Limits.{last_number}
+use Rattle.gs_model.specs.Limits.{last_number, last_node}
 use Rattle.gs_term.specs.Names.{name_cmp}
 use Rattle.gs_event.specs.Datasets.{empty_dataset}
 use Rattle.gs_event.specs.Histories.{Start, view_of, pinned_of}
@@ -30,7 +30,7 @@ use Rattle.gs_datasets.proofs.Sizes.{none_at_all}
 use Rattle.gs_tree_store.specs.declared.books.Books.{Books}
 use Rattle.gs_tree_store.specs.declared.books.Seat.TheVariants.{Idle}
 use Rattle.gs_tree_store.specs.declared.stores.TreeStore.TheInside.{Inside}
-use Rattle.gs_tree_store.specs.Books.{graphs_of, dataset_of, seat_view_by, upload_tree, read_trees, is_reading, IsSeat}
+use Rattle.gs_tree_store.specs.Books.{graphs_of, dataset_of, seat_view_by, upload_tree, read_trees, is_reading, IsSeat, HasItsVersion}
 use Rattle.gs_tree_store.specs.Opened.{own_record, own_count, own_record_at, HaveRecords}
 use Rattle.gs_tree_store.specs.Kept.{shown_of, IsKept}
 
@@ -83,6 +83,7 @@ pub record IsFresh (a : Inside) (seats commit : ℕ) : Type 0 where
   pub marks : a.books.pool.marks ≡ []
   pub records : a.books.records.records ≡ []
   pub latest : a.books.records.latest ≡ commit
+  pub limit : a.books.records.limit ≡ last_node + 1
   pub versions : a.books.versions ≡ unpinned commit seats
   pub idle : a.seats.items ≡ replicate seats Idle
 
@@ -90,12 +91,12 @@ module _ (a : Inside) (seats commit : ℕ) (fresh : IsFresh a seats commit) wher
   no_graphs : graphs_of a.books ≡ no_versions
   no_graphs = ap current fresh.records
 
-  fresh_ledger : IsLedger a.books.pool a.books.versions (graph_trees a.books.pool (graphs_of a.books)) (map (upload_tree a.books.pool) a.seats.items) (map (read_trees a.books.pool) a.seats.items) (dead_at a.books.pool)
+  fresh_ledger : IsLedger a.books.pool a.books.versions (graph_trees a.books.pool (graphs_of a.books)) (map (upload_tree a.books.pool) a.seats.items) (map (read_trees a.books.pool a.books.records) a.seats.items) (dead_at a.books.pool)
   fresh_ledger =
       let p = a.books.pool in
       let gs = graph_trees p (graphs_of a.books) in
       let us = map (upload_tree p) a.seats.items in
-      let rs = map (read_trees p) a.seats.items in
+      let rs = map (read_trees p a.books.records) a.seats.items in
       let current : All (λ t. t ≡ leaf) gs = subst (λ (g : GraphVersions). All (λ t. t ≡ leaf) (graph_trees p g)) (sym no_graphs) (no_trees p) in
       let staged : All (λ t. t ≡ leaf) us = subst (λ xs. All (λ t. t ≡ leaf) (map (upload_tree p) xs)) (sym fresh.idle) (All-map (λ t. t ≡ leaf) (upload_tree p) (replicate seats Idle) (All-replicate (λ s. upload_tree p s ≡ leaf) seats Idle refl)) in
       let pins : All (λ pin. pin ≡ None) a.books.versions.seats = subst (λ (v : Pins). All (λ pin. pin ≡ None) v.seats) (sym fresh.versions) (All-replicate (λ (pin : Option ℕ). pin ≡ None) seats None refl) in
@@ -111,10 +112,12 @@ module _ (a : Inside) (seats commit : ℕ) (fresh : IsFresh a seats commit) wher
           none_aside = ap (λ ms. count_by is_aside ms) fresh.marks;
           commit = subst (λ (v : Pins). v.commit ≤ last_number) (sym fresh.versions) last;
           latest = fresh.latest ∙ sym (ap (λ (v : Pins). v.commit) fresh.versions);
+          numbers = fresh.limit;
           base = base;
         };
-        known = subst (All (IsSeat terms p)) (sym fresh.idle) (All-replicate (IsSeat terms p) seats Idle tt);
+        known = subst (All (IsSeat terms p a.books.records)) (sym fresh.idle) (All-replicate (IsSeat terms p a.books.records) seats Idle tt);
         pinned = ap (λ (v : Pins). map is_some v.seats) fresh.versions ∙ no_flags seats ∙ sym (ap (map is_reading) fresh.idle);
+        versions = λ k. subst (HasItsVersion (get_or a.books.versions.seats k None)) (sym (ap (λ xs. get_or xs k Idle) fresh.idle ∙ idle_at seats k)) tt;
         records = subst (HaveRecords a.books) (sym fresh.idle) (none_have a.books seats fresh.records);
         ledger = fresh_ledger;
       }

@@ -6,6 +6,8 @@ pub mod OpenedLemmas
 pub mod AlikeLemmas
 pub mod SeatLemmas
 pub mod ReadLemmas
+pub mod AllLemmas
+pub mod VersionLemmas
 pub mod ActionLemmas
 pub mod StageLemmas
 pub mod UndoneLemmas

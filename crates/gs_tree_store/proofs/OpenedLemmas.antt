@@ -1,5 +1,5 @@
 -- The records that seats have open: one that is opened, one that is let go, and those of all seats.
-use Rattle.std.proofs.Common.{◌≡◌, ◌≢◌, ◌⊎◌, ℕ, ◌<◌, Bool, true, false, cond, List, length, get_or, set, sum_by, Option, Some, None, is_some, refl, sym, ap, subst, ◌∙◌, arith, inl, inr, true≢false}
+use Rattle.std.proofs.Common.{◌≡◌, ◌≢◌, ◌⊎◌, ℕ, ◌<◌, ◌≤◌, Bool, true, false, cond, List, length, get_or, set, sum_by, Option, Some, None, is_some, refl, sym, ap, subst, ◌∙◌, arith, inl, inr, true≢false}
 use Rattle.std.proofs.lemmas.Bool.{cases_eq}
 use Rattle.std.proofs.lemmas.Option.{none-some, same_Some}
 use Rattle.std.proofs.lemmas.List.{get_or_default, get_or-set_same, get_or-set_other}
@@ -12,11 +12,13 @@ use Rattle.gs_event.specs.declared.answers.Answer.TheVariants.{Refused}
 use Rattle.gs_event.specs.Steps.{Joins, IsUnreached, WastesRecords}
 use Rattle.gs_catalogue.specs.declared.versions.GraphVersion.{GraphVersion}
 use Rattle.gs_records.specs.Records.{Record, free, opened, unused, kept, Recorded, record_at, ended, Turns, Ends}
-use Rattle.gs_records.specs.Calls.{KeepsCounts, UsesOne, is_nothing, made_record, placed, Opens, GivesUp, MakesCurrent}
+use Rattle.gs_records.specs.Calls.{KeepsCounts, UsesOne, is_nothing, made_record, placed, Opens, GivesUp, RemovesVersion, MakesCurrent}
 use Rattle.gs_records.specs.Waste.{is_opened, waste_in, open_count, used_count}
+use Rattle.gs_quads.specs.Laws.{HasSame}
+use Rattle.gs_quads.proofs.Calls.{calls_keep}
 use Rattle.gs_tree_store.specs.declared.books.Books.{Books}
 use Rattle.gs_tree_store.specs.declared.books.Seat.{Seat}
-use Rattle.gs_tree_store.specs.declared.books.Seat.TheVariants.{Idle, Writing, Patching, Reading}
+use Rattle.gs_tree_store.specs.declared.books.Seat.TheVariants.{Idle, Writing, Patching, Reading, ReadingAll}
 use Rattle.gs_tree_store.specs.Books.{totals_of, seat_view_by}
 use Rattle.gs_tree_store.specs.Opened.{TakesRecords, own_record, own_count, IsOpened, HasRecord, SameOpened, LetsGo, IsOther, KeepsRecords, own_record_at, HaveRecords}
 use Rattle.gs_tree_store.proofs.RecordLemmas.{given_up}
@@ -28,23 +30,47 @@ Takes b c action answer = TakesRecords action answer (used_count b.records.recor
 abbrev pub Wastes : Books → Books → Seat → Action → Answer → Type 0
 Wastes b c was action answer = WastesRecords (totals_of b) (seat_view_by b was) action answer (waste_in b.records.records) (waste_in c.records.records)
 
+-- each version up to the last has what it had
+abbrev pub AllSame : Books → Books → Type 0
+AllSame b c = (v : ℕ) → v ≤ b.versions.commit → HasSame v b.records c.records
+
+-- so it is where the records are the same,
+itself : (x : Recorded) (v : ℕ) → HasSame v x x
+itself x v = record { numbers = λ n. refl; graphs = λ n has. refl; ages = λ n has. refl }
+
+all_itself : (b c : Books) → c.records ≡ b.records → AllSame b c
+all_itself b c same v le = subst (λ (x : Recorded). HasSame v b.records x) (sym same) (itself b.records v)
+
+-- where an open one is given up,
+all_given_up : (b c : Books) (n : ℕ) → IsOpened b n → GivesUp b.records c.records n → AllSame b c
+all_given_up b c n was gives v le = (calls_keep v).gives_up b.records c.records n was gives
+
+-- and where one is that of a graph by a later commit, or a graph is taken away by one
+pub all_put : (b c : Books) (n : ℕ) (t : Target) (g : GraphVersion) (commit : ℕ) → b.versions.commit < commit → IsOpened b n → MakesCurrent b.records c.records n t g commit → AllSame b c
+all_put b c n t g commit later was puts v le = (calls_keep v).puts b.records c.records n t g commit (omega arith) was puts
+
+pub all_removed : (b c : Books) (t : Target) (commit : ℕ) → b.versions.commit < commit → RemovesVersion b.records c.records t commit → AllSame b c
+all_removed b c t commit later gone v le = (calls_keep v).removes b.records c.records t commit (omega arith) gone
+
 -- a seat has one record open where it has a record
 counted : (s : Seat) → own_count s ≡ cond {A = ℕ} (is_some (own_record s)) 1 0
 counted Idle = refl
 counted (Writing k r v n) = refl
 counted (Patching t r n) = refl
 counted (Reading root last) = refl
+counted (ReadingAll v last) = refl
 
 count_is : (s : Seat) (o : Option ℕ) → own_record s ≡ o → own_count s ≡ cond {A = ℕ} (is_some o) 1 0
 count_is s o is = counted s ∙ ap (λ (x : Option ℕ). cond {A = ℕ} (is_some x) 1 0) is
 
 -- the same records are open, and the seat has what it had
-pub open_stays : (b c : Books) (was now : Seat) (action : Action) (answer : Answer) → own_record now ≡ own_record was → SameOpened b c → KeepsCounts b.records.records c.records.records → Takes b c action answer → Wastes b c was action answer → KeepsRecords b c was now action answer
-open_stays b c was now action answer own same counts takes wastes = record {
+pub open_stays : (b c : Books) (was now : Seat) (action : Action) (answer : Answer) → own_record now ≡ own_record was → SameOpened b c → AllSame b c → KeepsCounts b.records.records c.records.records → Takes b c action answer → Wastes b c was action answer → KeepsRecords b c was now action answer
+open_stays b c was now action answer own same all counts takes wastes = record {
   own = λ has n e. same.stays n (has n (sym own ∙ e));
   others = λ n o. record { open_now = same.stays n o.open_now; other = λ e. o.other (sym own ∙ e) };
   no_more = λ n o. record { open_now = same.no_more n o.open_now; other = λ e. o.other (own ∙ e) };
   opens = omega (arith, counts.opens, count_is now (own_record was) own, counted was);
+  same = all;
   takes = takes;
   waste = wastes;
 }
@@ -55,6 +81,7 @@ records_stay b c was now action answer same own takes wastes =
     let here = sym same in
     open_stays b c was now action answer own
     (record { stays = λ n h. ap (λ (x : Recorded). record_at x.records n) same ∙ h; no_more = λ n h. ap (λ (x : Recorded). record_at x.records n) here ∙ h })
+    (all_itself b c same)
     (record { used = ap (λ (x : Recorded). used_count x.records) same; opens = ap (λ (x : Recorded). open_count x.records) same })
     (subst (λ (x : Recorded). TakesRecords action answer (used_count b.records.records) (used_count x.records)) here takes)
     (subst (λ (x : Recorded). WastesRecords (totals_of b) (seat_view_by b was) action answer (waste_in b.records.records) (waste_in x.records)) here wastes)
@@ -78,6 +105,7 @@ record_opened b c was now action answer n none own opens takes wastes = record {
       let before : own_count was ≡ 0 = count_is was None none in
       let after : own_count now ≡ 1 = count_is now (Some n) own in
       omega (arith, opens.opens, before, after);
+  same = λ v le. (calls_keep v).opens b.records c.records n opens;
   takes = takes;
   waste = wastes;
 }
@@ -123,8 +151,8 @@ put_lets_go b c n t v commit puts =
     }
 
 -- the seat's record is let go
-pub record_let_go : (b c : Books) (was now : Seat) (action : Action) (answer : Answer) (n : ℕ) → own_record was ≡ Some n → own_record now ≡ None → LetsGo b c n → UsesOne b.records.records c.records.records → Takes b c action answer → Wastes b c was action answer → KeepsRecords b c was now action answer
-record_let_go b c was now action answer n own none go counts takes wastes = record {
+pub record_let_go : (b c : Books) (was now : Seat) (action : Action) (answer : Answer) (n : ℕ) → own_record was ≡ Some n → own_record now ≡ None → LetsGo b c n → AllSame b c → UsesOne b.records.records c.records.records → Takes b c action answer → Wastes b c was action answer → KeepsRecords b c was now action answer
+record_let_go b c was now action answer n own none go all counts takes wastes = record {
   own = λ h k e. absurd (none-some k (sym none ∙ e));
   others = λ m o. record {
     open_now = go.stays m (λ same. o.other (own ∙ ap Some (sym same))) o.open_now;
@@ -137,16 +165,17 @@ record_let_go b c was now action answer n own none go counts takes wastes = reco
       let before : own_count was ≡ 1 = count_is was (Some n) own in
       let after : own_count now ≡ 0 = count_is now None none in
       omega (arith, counts.opens, before, after);
+  same = all;
   takes = takes;
   waste = wastes;
 }
 
 -- it is given up
-pub record_given_up : (b c : Books) (was now : Seat) (action : Action) (answer : Answer) (n : ℕ) → own_record was ≡ Some n → own_record now ≡ None → GivesUp b.records c.records n
+pub record_given_up : (b c : Books) (was now : Seat) (action : Action) (answer : Answer) (n : ℕ) → own_record was ≡ Some n → own_record now ≡ None → IsOpened b n → GivesUp b.records c.records n
     → (used_count c.records.records ≡ used_count b.records.records → Takes b c action answer) → (Joins IsUnreached 1 (waste_in b.records.records) (waste_in c.records.records) → Wastes b c was action answer)
     → KeepsRecords b c was now action answer
-record_given_up b c was now action answer n own none gives takes wastes =
-    record_let_go b c was now action answer n own none (turn_lets_go b c n unused refl gives.turns) gives.counts (takes gives.counts.used) (wastes (given_up b.records c.records n gives))
+record_given_up b c was now action answer n own none open_now gives takes wastes =
+    record_let_go b c was now action answer n own none (turn_lets_go b c n unused refl gives.turns) (all_given_up b c n open_now gives) gives.counts (takes gives.counts.used) (wastes (given_up b.records c.records n gives))
 
 has_or_not : (o : Option ℕ) (n : ℕ) → (o ≡ Some n) ⊎ (o ≡ Some n → ⊥)
 has_or_not None n = inr (none-some n)

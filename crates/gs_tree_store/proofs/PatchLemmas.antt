@@ -52,7 +52,7 @@ use Rattle.gs_tree_store.proofs.CommitLemmas.{version_or}
 use Rattle.gs_tree_store.proofs.VerdictLemmas.{size_of_version, is_stored, is_not_stored, would_be_stored}
 use Rattle.gs_tree_store.proofs.SeatLemmas.{ledger_stays}
 use Rattle.gs_tree_store.proofs.UndoneLemmas.{with_nodes, undone_ready, undone_acts, undone_totals, nothing_done}
-use Rattle.gs_tree_store.proofs.DraftLemmas.{KeptEnds, with_draft, kept_dataset, kept_sound, kept_ends}
+use Rattle.gs_tree_store.proofs.DraftLemmas.{KeptEnds, IsNext, with_draft, kept_dataset, kept_sound, kept_ends}
 
 -- the graph of the target's version
 abbrev pub target_graph : Books → Target → Graph
@@ -134,6 +134,7 @@ without_effect b s t n o ops status is fails same ready =
       pins = sym (set-get_or b.versions.seats s None);
       sound = ready.sound;
       known = tt;
+      version = tt;
       grows = still_grows b.dict b.dict refl;
       ledgers = λ us rs l. record {
         ledger = ledger_stays b s Idle us rs l.read l.there l.ledger;
@@ -151,7 +152,7 @@ patch_missing b x s t n o ops same missing ready =
     let g = patched (graph_of_target m t) ops.items in
     let status : 404 ≡ status_of w m (Patches t ops.items) = sym (ap (λ y. cond y (stored_status w m t g) 404) missing) in
     let dataset : after w m (Patches t ops.items) ≡ m = ap (λ y. cond y (stored w m t g) m) missing in
-    acts_alike b x same b s (Patching t n o) Idle (CommitPatch ops) (Status 404 None) (without_effect b s t n o ops 404 status refl dataset ready)
+    acts_alike b x same b s (Patching t n o) (CommitPatch ops) (Status 404 None) (without_effect b s t n o ops 404 status refl dataset ready)
 
 -- The draft was refused or given up, and the pool is as it was.
 module _ (b : Books) (d : Numbered) (q : Nodes) (s : ℕ) (t : Target) (n o : ℕ) (ops : Vec Op Global) (grows : Grows b.dict d) (restores : Restores b.pool q) (there : is_there (dataset_of b) t ≡ true) (ready : IsReady b s (Patching t n o)) where
@@ -190,7 +191,7 @@ module _ (b : Books) (d : Numbered) (q : Nodes) (s : ℕ) (t : Target) (n o : �
       let m = dataset_of (with_nodes b d q) in
       let change = decided_now Full decided in
       let not = is_not_stored w m b.versions.commit (Patches t ops.items) t (patched (graph_of_target m t) ops.items) (status_stored w m t ops.items there_now) (dataset_stored w m t ops.items there_now) change.1 in
-      acts_alike (with_nodes b d q) x same b s (Patching t n o) Idle (CommitPatch ops) (Status 507 None)
+      acts_alike (with_nodes b d q) x same b s (Patching t n o) (CommitPatch ops) (Status 507 None)
       (acts_so Idle (Status 507 None) (without_effect (with_nodes b d q) s t n o ops 507 not.status_is refl not.dataset ready_now))
 
 -- what the copies replaced joins the waste
@@ -200,7 +201,7 @@ replaced_joins last most a b j = record { more = j.more; few = j.few; same = j.s
 -- the draft is kept
 pub patch_kept : (b : Books) (d : Numbered) (q r : Nodes) (w : Pins) (c : Recorded) (s : ℕ) (t : Target) (n o : ℕ) (ops : Vec Op Global) (v : GraphVersion) (birth status triples names : ℕ)
     → birth ≡ b.versions.commit + 1 → Grows b.dict d → DraftsPatch birth b d q t ops.items v
-    → KeepsDraftAll b.versions w q r → w ≡ at_commit b.versions (b.versions.commit + 1) → r.nodes ≡ q.nodes → aside_count r ≡ 0 → current c.records ≡ with_version (graphs_of b) t v → c.latest ≡ birth
+    → KeepsDraftAll b.versions w q r → w ≡ at_commit b.versions (b.versions.commit + 1) → r.nodes ≡ q.nodes → aside_count r ≡ 0 → current c.records ≡ with_version (graphs_of b) t v → IsNext b.records c birth
     → DecidesPatch b t ops.items (Granted status triples names) → IsReady b s (Patching t n o) → Acts b (with_draft b d r w c) s (Patching t n o) Idle (CommitPatch ops) (Status status None)
 patch_kept b d q r w c s t n o ops v birth status triples names born grows made keeps commit nodes none written latest decided ready =
     let there = decided.0 in
@@ -222,6 +223,7 @@ patch_kept b d q r w c s t n o ops v birth status triples names born grows made 
       pins = ap (λ (x : Pins). x.seats) commit ∙ sym (set-get_or b.versions.seats s None);
       sound = kept_sound b d q r w c t v g birth most born grows made keeps commit nodes none written latest number ready.sound (leaf ∷ some.uploads) some.reads some.ledger.ledger;
       known = tt;
+      version = tt;
       grows = grows;
       ledgers = λ us rs l.
           let e : KeptEnds b new most (leaf ∷ us) rs = kept_ends b d q r w c t v g birth most born grows made keeps commit nodes none written latest number ready.sound (leaf ∷ some.uploads) some.reads some.ledger.ledger (leaf ∷ us) rs l.ledger in

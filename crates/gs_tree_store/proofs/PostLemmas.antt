@@ -57,7 +57,7 @@ use Rattle.gs_tree_store.proofs.BeginLemmas.{can_draft}
 use Rattle.gs_tree_store.proofs.SeatLemmas.{SameGraphs, same_totals, ledger_stays}
 use Rattle.gs_tree_store.proofs.UndoneLemmas.{with_nodes, nothing_done}
 use Rattle.gs_tree_store.proofs.UploadLemmas.{restored_step, moved_graphs, moved_ledger, moved_waste, moved_use}
-use Rattle.gs_tree_store.proofs.DraftLemmas.{KeptEnds, with_draft, kept_dataset, kept_sound, kept_ends, united_target}
+use Rattle.gs_tree_store.proofs.DraftLemmas.{KeptEnds, IsNext, with_draft, kept_dataset, kept_sound, kept_ends, united_target}
 
 -- the target's graph with the upload's triples
 abbrev pub posted : Books → Target → GraphVersion → Graph
@@ -144,7 +144,7 @@ module _ (b : Books) (t : Target) (n : ℕ) (u : GraphVersion) (o : ℕ) (p1 : N
         let grows = still_grows b.dict b.dict refl in
         let graphs = moved_graphs b b.dict r 0 tree leaf grows ready.sound (gone_step 0) (no_tree r) restores.aside us₀ rs₀ l₀ in
         let waste = moved_waste b b.dict r 0 tree leaf grows ready.sound (gone_step 0) (no_tree r) restores.aside us₀ rs₀ l₀ in
-        acts_alike (with_nodes b b.dict r) x now b s (Writing (Post t) n u o) Idle Commit (Status 507 None)
+        acts_alike (with_nodes b b.dict r) x now b s (Writing (Post t) n u o) Commit (Status 507 None)
         (record {
           fits = (not.status_is, refl, λ e. absurd (true≢false (sym e)));
           totals = λ i. record { setting = books_setting b; dataset = (graphs.dataset ∙ sym not.dataset) i; request = sym (add-zero b.request) i; commit = sym (add-zero b.versions.commit) i };
@@ -152,6 +152,7 @@ module _ (b : Books) (t : Target) (n : ℕ) (u : GraphVersion) (o : ℕ) (p1 : N
           pins = sym (set-get_or b.versions.seats s None);
           sound = graphs.sound;
           known = tt;
+          version = tt;
           grows = grows;
           ledgers = λ us rs l.
               let here = moved_ledger b b.dict r 0 tree leaf grows ready.sound (gone_step 0) (no_tree r) restores.aside us₀ rs₀ l₀ us rs l.ledger in
@@ -191,6 +192,7 @@ module _ (b : Books) (t : Target) (n : ℕ) (u : GraphVersion) (o : ℕ) (p1 : N
             };
             counted = puts.counted ∙ sym (ap length made.keys_are);
           };
+          version = tt;
           grows = grows;
           ledgers = λ us rs l. record {
             ledger = ledger_stays (with_nodes b b.dict r') s (Writing (Post t) n v o) us rs l.read l.there (moved_ledger b b.dict r' birth tree new grows ready.sound step stands none us₀ rs₀ l₀ us rs l.ledger);
@@ -263,7 +265,7 @@ module _ (b : Books) (t : Target) (n : ℕ) (u : GraphVersion) (o : ℕ) (p1 : N
 
       -- kept, it is the target's graph
       pub draft_stored : (r : Nodes) (w : Pins) (c : Recorded) (s status triples names : ℕ) (now : Seat) → now ≡ Idle → Granted status triples names ≡ verdict_of held place (Stores v.triples true) → birth ≡ b.versions.commit + 1
-          → KeepsDraftAll b.versions w q r → w ≡ at_commit b.versions (b.versions.commit + 1) → r.nodes ≡ q.nodes → aside_count r ≡ 0 → current c.records ≡ with_version (graphs_of b) t v → c.latest ≡ birth → IsReady b s (Writing (Post t) n u o)
+          → KeepsDraftAll b.versions w q r → w ≡ at_commit b.versions (b.versions.commit + 1) → r.nodes ≡ q.nodes → aside_count r ≡ 0 → current c.records ≡ with_version (graphs_of b) t v → IsNext b.records c birth → IsReady b s (Writing (Post t) n u o)
           → Acts b (with_draft b b.dict r w c) s (Writing (Post t) n u o) now Commit (Status status None)
       draft_stored r w c s status triples names now idle by born keeps commit nodes none written latest ready =
           let decided = draft_decided held place (Granted status triples names) holds at by in
@@ -276,15 +278,15 @@ module _ (b : Books) (t : Target) (n : ℕ) (u : GraphVersion) (o : ℕ) (p1 : N
           let here : HasLedger mid (leaf ∷ us₀) rs₀ = mid_ledger us₀ rs₀ l₀ in
           let dataset : dataset_of new ≡ with_graph (dataset_of mid) t both = kept_dataset mid b.dict q r w c t v both birth most born grows draft_made keeps commit nodes none written latest number mid_graphs.sound (leaf ∷ us₀) rs₀ here in
           let written_is : with_graph (dataset_of mid) t both ≡ with_graph (dataset_of b) t (posted b t u) = λ i. with_graph (mid_graphs.dataset i) t (both_is i) in
-          let request : b.request ≡ b.request + 0 = sym (add-zero b.request) in
           let counted : w.commit ≡ b.versions.commit + cond (is_success status) 1 0 = last ∙ sym (ap (λ x. b.versions.commit + cond x 1 0) stored.well) in
           let acts : Acts b new s (Writing (Post t) n u o) Idle Commit (Status status None) = record {
             fits = (stored.status_is, refl, λ e. number);
-            totals = λ i. record { setting = books_setting b; dataset = (dataset ∙ written_is ∙ sym stored.dataset) i; request = request i; commit = counted i };
+            totals = λ i. record { setting = books_setting b; dataset = (dataset ∙ written_is ∙ sym stored.dataset) i; request = sym (add-zero b.request) i; commit = counted i };
             seat = refl;
             pins = ap (λ (x : Pins). x.seats) commit ∙ sym (set-get_or b.versions.seats s None);
             sound = kept_sound mid b.dict q r w c t v both birth most born grows draft_made keeps commit nodes none written latest number mid_graphs.sound (leaf ∷ us₀) rs₀ here;
             known = tt;
+            version = tt;
             grows = grows;
             ledgers = λ us rs l.
                 let e : KeptEnds mid new most (leaf ∷ us) rs = kept_ends mid b.dict q r w c t v both birth most born grows draft_made keeps commit nodes none written latest number mid_graphs.sound (leaf ∷ us₀) rs₀ here (leaf ∷ us) rs (mid_ledger us rs l.ledger) in

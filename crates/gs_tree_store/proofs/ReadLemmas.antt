@@ -1,14 +1,18 @@
 -- What a pin and a piece of a read make of the books and of the seat.
-use Rattle.std.proofs.Common.{◌≡◌, ℕ, ◌<◌, true, false, cond, List, [], ◌∷◌, get_or, Option, Some, None, is_some, option_map, refl, sym, ap, subst, ◌∙◌}
+use Rattle.std.proofs.Common.{◌≡◌, ℕ, ◌<◌, true, false, cond, List, [], ◌∷◌, get_or, Option, Some, None, is_some, option_map, nat_lt, refl, sym, ap, subst, ◌∙◌}
 use Rattle.std.proofs.lemmas.List.{set-get_or, length-set, get_or-set_same, get_or-map, length-map}
 use Rattle.std.proofs.lemmas.List.Elements.{All-cons, All-nil, All-head}
 use Rattle.std.specs.List.{All, Contains}
 use Rattle.gs_model.specs.Graphs.{lines_of}
+use Rattle.gs_model.specs.declared.refusals.Refusal.TheVariants.{WrongPhase}
 use Rattle.gs_term.specs.declared.names.Target.{Target}
 use Rattle.gs_event.specs.declared.events.Action.TheVariants.{Pin, Piece as PieceOf}
-use Rattle.gs_event.specs.declared.answers.Answer.TheVariants.{Pinned, Lines}
+use Rattle.gs_event.specs.declared.events.Scope.TheVariants.{One}
+use Rattle.gs_event.specs.declared.answers.Answer.TheVariants.{Pinned, Lines, Refused}
 use Rattle.gs_event.specs.Datasets.{is_there, lines_at, lines_if}
 use Rattle.gs_event.specs.Phases as phase
+use Rattle.gs_event.specs.Phases.{allows}
+use Rattle.gs_event.specs.Views.{SeatView}
 use Rattle.gs_pool.specs.declared.nodes.Key.{Key}
 use Rattle.gs_pool.specs.Pool.{Nodes}
 use Rattle.gs_tree.specs.Tree.{Tree, leaf, root_of, tree_at}
@@ -31,16 +35,18 @@ use Rattle.gs_datasets.specs.Standing.{all_versions, graph_trees, version_tree, 
 use Rattle.gs_datasets.proofs.Parting.{all_target}
 use Rattle.gs_datasets.proofs.Sizes.{graph_at-is, is_there-is}
 use Rattle.gs_datasets.proofs.Keeping.{ledger_has_sets}
+use Rattle.gs_quads.specs.Places.{Place}
 use Rattle.gs_tree_store.specs.declared.books.Books.{Books}
 use Rattle.gs_tree_store.specs.declared.books.Seat.{Seat}
-use Rattle.gs_tree_store.specs.declared.books.Seat.TheVariants.{Idle, Reading}
-use Rattle.gs_tree_store.specs.Books.{graphs_of, dataset_of, upload_tree, IsReady}
+use Rattle.gs_tree_store.specs.declared.books.Seat.TheVariants.{Idle, Writing, Patching, Reading, ReadingAll}
+use Rattle.gs_tree_store.specs.Books.{graphs_of, dataset_of, seat_view_by, upload_tree, IsReady}
 use Rattle.gs_tree_store.specs.Actions.{Acts}
 use Rattle.gs_tree_store.proofs.PlaceLemmas.{some_of}
-use Rattle.gs_tree_store.proofs.SeatLemmas.{same_totals, ledger_stays, read_ends}
+use Rattle.gs_tree_store.proofs.UndoneLemmas.{nothing_done}
+use Rattle.gs_tree_store.proofs.SeatLemmas.{same_totals, still_sound, ledger_stays, read_ends}
 
 -- the tree of a target's version is among those of the ledger
-has_tree : (p : Nodes) (g : GraphVersions) (t : Target) (v : GraphVersion) → version_at g t ≡ Some v → Contains (graph_trees p g) (tree_at p v.root)
+pub has_tree : (p : Nodes) (g : GraphVersions) (t : Target) (v : GraphVersion) → version_at g t ≡ Some v → Contains (graph_trees p g) (tree_at p v.root)
 has_tree p g t v is =
     let vs = all_versions g in
     let f = version_tree p in
@@ -48,7 +54,7 @@ has_tree p g t v is =
     (λ k d h. (k, subst (λ n. k < n) (sym (length-map vs f)) h, get_or-map f vs k d (f (get_or vs k d)) h))
 
 -- its root can be read
-version_read : (b : Books) (s : ℕ) (seat : Seat) (t : Target) (v : GraphVersion) → version_at (graphs_of b) t ≡ Some v → IsReady b s seat → IsVersion b.dict.terms b.pool v × IsGraphAt b.dict.terms b.pool v.root
+pub version_read : (b : Books) (s : ℕ) (seat : Seat) (t : Target) (v : GraphVersion) → version_at (graphs_of b) t ≡ Some v → IsReady b s seat → IsVersion b.dict.terms b.pool v × IsGraphAt b.dict.terms b.pool v.root
 version_read b s seat t v is ready =
     let terms = b.dict.terms in
     let p = b.pool in
@@ -78,7 +84,7 @@ pub read_graph : (b : Books) (s : ℕ) (seat : Seat) (root : Option ℕ) (last :
 read_graph b s seat root last reads = subst (λ x. IsReady b s x → IsGraphAt b.dict.terms b.pool root) (sym reads) (read_at b s root last)
 
 -- a pin of a missing graph
-missing : (b : Books) (s : ℕ) (t : Target) → version_at (graphs_of b) t ≡ None → IsReady b s Idle → Acts b b s Idle Idle (Pin t) (Pinned 404)
+missing : (b : Books) (s : ℕ) (t : Target) → version_at (graphs_of b) t ≡ None → IsReady b s Idle → Acts b b s Idle Idle (Pin (One t)) (Pinned 404)
 missing b s t none ready =
     let not_there : is_there (dataset_of b) t ≡ false = is_there-is b.dict.terms b.pool (graphs_of b) t ∙ ap is_some none in
     record {
@@ -88,17 +94,18 @@ missing b s t none ready =
       pins = sym (set-get_or b.versions.seats s None);
       sound = ready.sound;
       known = tt;
+      version = tt;
       grows = still_grows b.dict b.dict refl;
       ledgers = λ us rs l. record { ledger = ledger_stays b s Idle us rs l.read l.there l.ledger; waste = refl };
       takes = refl;
     }
 
-pub pin_missing : (b : Books) (s : ℕ) (seat : Seat) (t : Target) → seat ≡ Idle → version_at (graphs_of b) t ≡ None → IsReady b s seat → Acts b b s seat seat (Pin t) (Pinned 404)
-pin_missing b s seat t idle none = subst (λ x. IsReady b s x → Acts b b s x x (Pin t) (Pinned 404)) (sym idle) (missing b s t none)
+pub pin_missing : (b : Books) (s : ℕ) (seat : Seat) (t : Target) → seat ≡ Idle → version_at (graphs_of b) t ≡ None → IsReady b s seat → Acts b b s seat seat (Pin (One t)) (Pinned 404)
+pin_missing b s seat t idle none = subst (λ x. IsReady b s x → Acts b b s x x (Pin (One t)) (Pinned 404)) (sym idle) (missing b s t none)
 
 -- a pin of a graph
 pinned : (b : Books) (s : ℕ) (t : Target) (v : GraphVersion) → version_at (graphs_of b) t ≡ Some v → IsReady b s Idle
-    → Acts b (record b { versions = with_pin b.versions s (Some b.versions.commit) }) s Idle (Reading v.root None) (Pin t) (Pinned 200)
+    → Acts b (record b { versions = with_pin b.versions s (Some b.versions.commit) }) s Idle (Reading v.root None) (Pin (One t)) (Pinned 200)
 pinned b s t v is ready =
     let terms = b.dict.terms in
     let p = b.pool in
@@ -115,8 +122,9 @@ pinned b s t v is ready =
       totals = same_totals b (record b { versions = with_pin b.versions s (Some b.versions.commit) }) refl refl refl refl;
       seat = ap (λ x. phase.Reading x) lines;
       pins = refl;
-      sound = record { versions = ready.sound.versions; none_aside = ready.sound.none_aside; commit = ready.sound.commit; latest = ready.sound.latest; base = ready.sound.base };
+      sound = still_sound b s (Some b.versions.commit) ready.sound;
       known = record { root_is = read.0.root_is; keyed = read.0.keyed; given = tt };
+      version = tt;
       grows = still_grows b.dict b.dict refl;
       ledgers = λ us rs l. record {
         ledger = record {
@@ -130,10 +138,10 @@ pinned b s t v is ready =
     }
 
 pub pin_found : (b : Books) (s : ℕ) (seat : Seat) (t : Target) (v : GraphVersion) (w : Pins) → seat ≡ Idle → version_at (graphs_of b) t ≡ Some v → w ≡ with_pin b.versions s (Some b.versions.commit) → IsReady b s seat
-    → Acts b (record b { versions = w }) s seat (Reading v.root None) (Pin t) (Pinned 200)
+    → Acts b (record b { versions = w }) s seat (Reading v.root None) (Pin (One t)) (Pinned 200)
 pin_found b s seat t v w idle is pin =
-    subst (λ x. IsReady b s x → Acts b (record b { versions = w }) s x (Reading v.root None) (Pin t) (Pinned 200)) (sym idle)
-    (λ ready. subst (λ y. Acts b (record b { versions = y }) s Idle (Reading v.root None) (Pin t) (Pinned 200)) (sym pin) (pinned b s t v is ready))
+    subst (λ x. IsReady b s x → Acts b (record b { versions = w }) s x (Reading v.root None) (Pin (One t)) (Pinned 200)) (sym idle)
+    (λ ready. subst (λ y. Acts b (record b { versions = y }) s Idle (Reading v.root None) (Pin (One t)) (Pinned 200)) (sym pin) (pinned b s t v is ready))
 
 -- a piece after which lines are left
 more_left : (b : Books) (s : ℕ) (root : Option ℕ) (last : Option Key) (count : ℕ) (piece : Piece) → 0 < count → piece.is_end ≡ false → IsPiece b.dict.terms b.pool root last count piece → IsReady b s (Reading root last)
@@ -145,6 +153,7 @@ more_left b s root last count piece some more p ready = record {
   pins = sym (set-get_or b.versions.seats s None);
   sound = ready.sound;
   known = record { root_is = ready.known.root_is; keyed = ready.known.keyed; given = p.last_given };
+  version = tt;
   grows = still_grows b.dict b.dict refl;
   ledgers = λ us rs l. record { ledger = ledger_stays b s (Reading root piece.last) us rs l.read l.there l.ledger; waste = refl };
   takes = refl;
@@ -163,10 +172,11 @@ none_left b s root last count piece some ends p ready = record {
   totals = same_totals b (record b { versions = with_pin b.versions s None }) refl refl refl refl;
   seat = refl;
   pins = refl;
-  sound = record { versions = ready.sound.versions; none_aside = ready.sound.none_aside; commit = ready.sound.commit; latest = ready.sound.latest; base = ready.sound.base };
+  sound = still_sound b s None ready.sound;
   known = tt;
+  version = tt;
   grows = still_grows b.dict b.dict refl;
-  ledgers = λ us rs l. record { ledger = read_ends b s root last us rs ready.there l; waste = refl };
+  ledgers = λ us rs l. record { ledger = read_ends b s us rs ready.there l.there l.ledger; waste = refl };
   takes = refl;
 }
 
@@ -175,3 +185,33 @@ pub piece_last : (b : Books) (s : ℕ) (seat : Seat) (root : Option ℕ) (last :
 piece_last b s seat root last count piece w reads some ends p pin =
     subst (λ x. IsReady b s x → Acts b (record b { versions = w }) s x Idle (PieceOf count) (Lines piece.bytes true)) (sym reads)
     (λ ready. subst (λ y. Acts b (record b { versions = y }) s (Reading root last) Idle (PieceOf count) (Lines piece.bytes true)) (sym pin) (none_left b s root last count piece some ends p ready))
+
+-- a piece of no line is not allowed
+none_allowed : (x : SeatView) (count : ℕ) → count ≡ 0 → allows x (PieceOf count) ≡ false
+none_allowed phase.Idle count none = refl
+none_allowed (phase.Writing k r g) count none = refl
+none_allowed (phase.Patching t r) count none = refl
+none_allowed (phase.Reading left) count none = ap (λ n. nat_lt 0 n) none
+
+-- nor is one of a seat that does not read
+not_allowed : (b : Books) (seat : Seat) (count : ℕ) → ((root : Option ℕ) (last : Option Key) → seat ≡ Reading root last → ⊥) → ((v : ℕ) (last : Option Place) → seat ≡ ReadingAll v last → ⊥) → allows (seat_view_by b seat) (PieceOf count) ≡ false
+not_allowed b Idle count none none_of_all = refl
+not_allowed b (Writing k r v o) count none none_of_all = refl
+not_allowed b (Patching t r o) count none none_of_all = refl
+not_allowed b (Reading root last) count none none_of_all = absurd (none root last refl)
+not_allowed b (ReadingAll v last) count none none_of_all = absurd (none_of_all v last refl)
+
+-- so it is refused
+refuses : (b : Books) (s : ℕ) (seat : Seat) (count : ℕ) → allows (seat_view_by b seat) (PieceOf count) ≡ false → IsReady b s seat → Acts b b s seat seat (PieceOf count) (Refused WrongPhase)
+refuses b s Idle count bars = nothing_done b s Idle (PieceOf count) (Refused WrongPhase) bars refl refl refl refl refl
+refuses b s (Writing k r v o) count bars = nothing_done b s (Writing k r v o) (PieceOf count) (Refused WrongPhase) bars refl refl refl refl refl
+refuses b s (Patching t r o) count bars = nothing_done b s (Patching t r o) (PieceOf count) (Refused WrongPhase) bars refl refl refl refl refl
+refuses b s (Reading root last) count bars = nothing_done b s (Reading root last) (PieceOf count) (Refused WrongPhase) bars refl refl refl refl refl
+refuses b s (ReadingAll v last) count bars = nothing_done b s (ReadingAll v last) (PieceOf count) (Refused WrongPhase) bars refl refl refl refl refl
+
+pub none_refused : (b : Books) (s : ℕ) (seat : Seat) (count : ℕ) → count ≡ 0 → IsReady b s seat → Acts b b s seat seat (PieceOf count) (Refused WrongPhase)
+none_refused b s seat count none = refuses b s seat count (none_allowed (seat_view_by b seat) count none)
+
+pub not_reading : (b : Books) (s : ℕ) (seat : Seat) (count : ℕ) → ((root : Option ℕ) (last : Option Key) → seat ≡ Reading root last → ⊥) → ((v : ℕ) (last : Option Place) → seat ≡ ReadingAll v last → ⊥)
+    → IsReady b s seat → Acts b b s seat seat (PieceOf count) (Refused WrongPhase)
+not_reading b s seat count none none_of_all = refuses b s seat count (not_allowed b seat count none none_of_all)

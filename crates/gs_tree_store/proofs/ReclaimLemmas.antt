@@ -1,7 +1,7 @@
 -- What a Reclaim keeps of the whole store.
 use Rattle.std.proofs.Common.{◌≡◌, ℕ, ◌+◌, ◌-◌, ◌<◌, Bool, ◌||◌, List, [], map, length, get_or, Option, None, refl, sym, ap, ◌∙◌, subst, inl, inr, arith, true≢false}
 use Rattle.std.specs.List.{All}
-use Rattle.std.proofs.lemmas.List.{append-nil, length-map, get_or-map}
+use Rattle.std.proofs.lemmas.List.{append-nil, length-map, get_or_default, get_or-map}
 use Rattle.gs_event.specs.declared.events.Event.TheVariants.{Reclaim}
 use Rattle.gs_event.specs.declared.answers.Answer.TheVariants.{Reclaimed}
 use Rattle.gs_event.specs.Waste.{Lifetime, Shown}
@@ -13,6 +13,9 @@ use Rattle.gs_ledger.specs.Ledger.{IsLedger}
 use Rattle.gs_reclaim.specs.Reclaims.{KeepsLedgers}
 use Rattle.gs_records.specs.Records.{Record, opened, Recorded, record_at}
 use Rattle.gs_records.specs.Waste.{lifetimes, waste_in, is_opened}
+use Rattle.gs_records.specs.Graphs.{current}
+use Rattle.gs_records.specs.Order.{AreListed}
+use Rattle.gs_quads.proofs.Calls.{calls_keep}
 use Rattle.gs_records.specs.Reclaims.{StaysOrGoes, ReclaimsRecords}
 use Rattle.gs_datasets.specs.Standing.{dataset_at, all_versions, graph_trees, IsVersion}
 use Rattle.gs_datasets.specs.Trees.{IsMeant, IsPlainTree}
@@ -20,13 +23,14 @@ use Rattle.gs_datasets.specs.Writes.{KeepsDataset}
 use Rattle.gs_datasets.proofs.Keeping.{ledger_keeps, graphs_stay}
 use Rattle.gs_datasets.proofs.Writing.{all_stay}
 use Rattle.gs_tree_store.specs.declared.books.Seat.{Seat}
+use Rattle.gs_tree_store.specs.declared.books.Seat.TheVariants.{Idle}
 use Rattle.gs_tree_store.specs.declared.stores.TreeStore.TheInside.{Inside}
-use Rattle.gs_tree_store.specs.Books.{graphs_of, seat_view_by, upload_tree, read_trees, IsSeat}
+use Rattle.gs_tree_store.specs.Books.{graphs_of, seat_view_by, upload_tree, read_trees, IsSeat, HasItsVersion, IsSound}
 use Rattle.gs_tree_store.specs.Opened.{IsOpened}
 use Rattle.gs_tree_store.specs.Kept.{shown_of, IsKept}
 use Rattle.gs_tree_store.proofs.AlikeLemmas.{SameNow, alike_dataset, alike_sound}
 use Rattle.gs_tree_store.proofs.PlaceLemmas.{same_map, pin_at, some_of}
-use Rattle.gs_tree_store.proofs.ShownLemmas.{outlives_same, KeepsSeat, same_upload, same_read, keeps_seat, seat_stays, shown_stays}
+use Rattle.gs_tree_store.proofs.ShownLemmas.{outlives_same, reads_same, KeepsSeat, same_upload, same_read, keeps_seat, seat_stays, shown_stays}
 use Rattle.gs_tree_store.proofs.KeptLemmas.{uploads_of, reads_of}
 use Rattle.gs_tree_store.proofs.JoinLemmas.{frees_both}
 
@@ -34,7 +38,7 @@ use Rattle.gs_tree_store.proofs.JoinLemmas.{frees_both}
 abbrev with_pool : Inside → Nodes → Inside
 with_pool a q = record a { books = record a.books { pool = q } }
 
--- and with other records
+-- and with other records too
 abbrev pub reclaimed : Inside → Nodes → Recorded → Inside
 reclaimed a q r = record a { books = record a.books { pool = q; records = r } }
 
@@ -66,51 +70,53 @@ module _ (a : Inside) (q : Nodes) (kept : IsKept a) (ledgers : KeepsLedgers a.bo
   dataset_kept : dataset_at a.books.dict.terms q (graphs_of a.books) ≡ dataset_at a.books.dict.terms a.books.pool (graphs_of a.books)
   dataset_kept = subst (λ ts. dataset_at ts q (graphs_of a.books) ≡ dataset_at a.books.dict.terms a.books.pool (graphs_of a.books)) (append-nil a.books.dict.terms) graphs_kept.dataset
 
-  -- and so do seats
-  seats_kept : (k : ℕ) (d : Seat) → k < length a.seats.items → KeepsSeat a.books.pool q (get_or a.seats.items k d)
-  seats_kept k d lt =
-      let p = a.books.pool in
-      let xs = a.seats.items in
-      let pins = a.books.versions.seats in
-      let trees = ledger_keeps q a.books.versions (graph_trees p (graphs_of a.books)) (uploads_of a) (reads_of a) (dead_at q) gone_on in
-      let long : length (uploads_of a) ≡ length xs = length-map xs (upload_tree p) in
-      let staged : IsPlainTree q (upload_tree p (get_or xs k d)) = subst (IsPlainTree q) (get_or-map (upload_tree p) xs k d leaf lt) (trees.staged k leaf (omega arith)) in
-      keeps_seat p q a.books.dict.terms (get_or xs k d) (kept.known k d lt) staged
-      (λ reads.
-      let some = some_of (get_or pins k None) (pin_at pins xs k d kept.pinned lt ∙ reads) in
-      subst (All (IsMeant q)) (get_or-map (read_trees p) xs k d [] lt) (trees.read k some.0 some.1))
-
-  seats_known : All (IsSeat a.books.dict.terms q) a.seats.items
-  seats_known = λ k d lt. seat_stays a.books.dict.terms a.books.dict.terms (outlives_same a.books.dict.terms) a.books.pool q (get_or a.seats.items k d) (kept.known k d lt) (seats_kept k d lt)
-
-  seats_shown : map (seat_view_by (with_pool a q).books) a.seats.items ≡ map (seat_view_by a.books) a.seats.items
-  seats_shown = same_map (seat_view_by a.books) (seat_view_by (with_pool a q).books) a.seats.items
-      (λ k d lt. shown_stays a.books.dict.terms a.books.dict.terms (outlives_same a.books.dict.terms) a.books.pool q (get_or a.seats.items k d) (kept.known k d lt) (seats_kept k d lt))
-
-  ledger_kept : IsLedger q a.books.versions (graph_trees q (graphs_of a.books)) (uploads_of (with_pool a q)) (reads_of (with_pool a q)) (dead_at q)
-  ledger_kept =
-      let p = a.books.pool in
-      let xs = a.seats.items in
-      let us : uploads_of (with_pool a q) ≡ uploads_of a = same_map (upload_tree p) (upload_tree q) xs (λ k d lt. same_upload p q (get_or xs k d) (seats_kept k d lt)) in
-      let rs : reads_of (with_pool a q) ≡ reads_of a = same_map (read_trees p) (read_trees q) xs (λ k d lt. same_read p q (get_or xs k d) (seats_kept k d lt)) in
-      subst (λ gs. IsLedger q a.books.versions gs (uploads_of (with_pool a q)) (reads_of (with_pool a q)) (dead_at q)) (sym graphs_kept.trees)
-      (subst (λ ts. IsLedger q a.books.versions (graph_trees p (graphs_of a.books)) ts (reads_of (with_pool a q)) (dead_at q)) (sym us)
-      (subst (λ ts. IsLedger q a.books.versions (graph_trees p (graphs_of a.books)) (uploads_of a) ts (dead_at q)) (sym rs) gone_on))
-
-  pool_kept : aside_count q ≡ 0 → IsKept (with_pool a q)
-  pool_kept none = record {
-    sound = record { versions = versions_kept; none_aside = none; commit = kept.sound.commit; latest = kept.sound.latest; base = kept.sound.base };
-    known = seats_known;
-    pinned = kept.pinned;
-    records = record { open_now = kept.records.open_now; apart = kept.records.apart; all = kept.records.all; many = kept.records.many };
-    ledger = ledger_kept;
-  }
+  -- the books are sound with the other pool
+  sound_kept : aside_count q ≡ 0 → IsSound (with_pool a q).books
+  sound_kept none = record { versions = versions_kept; none_aside = none; commit = kept.sound.commit; latest = kept.sound.latest; numbers = kept.sound.numbers; base = kept.sound.base }
 
   -- Records go too, at most so many as are left of the count once nodes went.
-  module _ (r : Recorded) (n freed gone : ℕ) (left rest : Bool) (reclaims : ReclaimsRecords a.books.versions.seats (n - freed) gone rest a.books.records r) where
+  module _ (r : Recorded) (n freed gone : ℕ) (left rest : Bool) (reclaims : ReclaimsRecords a.books.versions.seats (n - freed) gone rest a.books.records r)
+      (al : AreListed a.books.records.records a.books.records.listed) (al_new : AreListed r.records r.listed) where
+    -- seats keep their trees
+    seats_kept : (k : ℕ) (d : Seat) → k < length a.seats.items → KeepsSeat a.books.pool q a.books.records r (get_or a.seats.items k d)
+    seats_kept k d lt =
+        let p = a.books.pool in
+        let x = a.books.records in
+        let xs = a.seats.items in
+        let pins = a.books.versions.seats in
+        let trees = ledger_keeps q a.books.versions (graph_trees p (graphs_of a.books)) (uploads_of a) (reads_of a) (dead_at q) gone_on in
+        let long : length (uploads_of a) ≡ length xs = length-map xs (upload_tree p) in
+        let staged : IsPlainTree q (upload_tree p (get_or xs k d)) = subst (IsPlainTree q) (get_or-map (upload_tree p) xs k d leaf lt) (trees.staged k leaf (omega arith)) in
+        let version = subst (HasItsVersion (get_or pins k None)) (get_or_default xs k Idle d lt) (kept.versions k) in
+        keeps_seat p q x r al al_new a.books.dict.terms (get_or xs k d) (kept.known k d lt) staged
+        (λ reads.
+        let some = some_of (get_or pins k None) (pin_at pins xs k d kept.pinned lt ∙ reads) in
+        subst (All (IsMeant q)) (get_or-map (read_trees p x) xs k d [] lt) (trees.read k some.0 some.1))
+        (reads_same x r (get_or pins k None) (get_or xs k d) version (λ v pinned. (calls_keep v).reclaims x r pins k (n - freed) gone rest pinned reclaims))
+
+    seats_known : All (IsSeat a.books.dict.terms q r) a.seats.items
+    seats_known = λ k d lt. seat_stays a.books.dict.terms a.books.dict.terms (outlives_same a.books.dict.terms) a.books.pool q a.books.records r al al_new (get_or a.seats.items k d) (kept.known k d lt) (seats_kept k d lt)
+
+    seats_shown : map (seat_view_by (reclaimed a q r).books) a.seats.items ≡ map (seat_view_by a.books) a.seats.items
+    seats_shown = same_map (seat_view_by a.books) (seat_view_by (reclaimed a q r).books) a.seats.items
+        (λ k d lt. shown_stays a.books.dict.terms a.books.dict.terms (outlives_same a.books.dict.terms) a.books.pool q a.books.records r al al_new (get_or a.seats.items k d) (kept.known k d lt) (seats_kept k d lt))
+
     -- the graphs of now are the same
     now_same : SameNow a.books.records r
-    now_same = record { graphs = reclaims.now; latest = reclaims.latest }
+    now_same = record { graphs = reclaims.now; latest = reclaims.latest; limit = reclaims.limit }
+
+    ledger_kept : IsLedger q a.books.versions (graph_trees q (current r.records)) (uploads_of (reclaimed a q r)) (reads_of (reclaimed a q r)) (dead_at q)
+    ledger_kept =
+        let p = a.books.pool in
+        let x = a.books.records in
+        let xs = a.seats.items in
+        let b = reclaimed a q r in
+        let us : uploads_of b ≡ uploads_of a = same_map (upload_tree p) (upload_tree q) xs (λ k d lt. same_upload p q x r (get_or xs k d) (seats_kept k d lt)) in
+        let rs : reads_of b ≡ reads_of a = same_map (read_trees p x) (read_trees q r) xs (λ k d lt. same_read p q x r (get_or xs k d) (seats_kept k d lt)) in
+        let gs : graph_trees q (current r.records) ≡ graph_trees p (graphs_of a.books) = ap (graph_trees q) now_same.graphs ∙ graphs_kept.trees in
+        subst (λ ts. IsLedger q a.books.versions ts (uploads_of b) (reads_of b) (dead_at q)) (sym gs)
+        (subst (λ ts. IsLedger q a.books.versions (graph_trees p (graphs_of a.books)) ts (reads_of b) (dead_at q)) (sym us)
+        (subst (λ ts. IsLedger q a.books.versions (graph_trees p (graphs_of a.books)) (uploads_of a) ts (dead_at q)) (sym rs) gone_on))
 
     still_open : (k : ℕ) → IsOpened a.books k → IsOpened (reclaimed a q r).books k
     still_open k open_now = opened_stays a.books.versions.seats (record_at a.books.records.records k) (record_at r.records k) open_now (reclaims.each k)
@@ -121,11 +127,12 @@ module _ (a : Inside) (q : Nodes) (kept : IsKept a) (ledgers : KeepsLedgers a.bo
     -- What holds of every store still holds,
     pub kept_reclaimed : aside_count q ≡ 0 → IsKept (reclaimed a q r)
     kept_reclaimed none = record {
-      sound = alike_sound (with_pool a q).books r now_same (pool_kept none).sound;
+      sound = alike_sound (with_pool a q).books r now_same (sound_kept none);
       known = seats_known;
       pinned = kept.pinned;
+      versions = kept.versions;
       records = record { open_now = λ k m e. still_open m (kept.records.open_now k m e); apart = kept.records.apart; all = λ m h. kept.records.all m (was_open m h); many = reclaims.opens ∙ kept.records.many };
-      ledger = subst (λ g. IsLedger q a.books.versions (graph_trees q g) (uploads_of (with_pool a q)) (reads_of (with_pool a q)) (dead_at q)) (sym now_same.graphs) ledger_kept;
+      ledger = ledger_kept;
     }
 
     own_reclaim : Frees a.books.versions.seats n freed left (waste_at a.books.pool) (waste_at q) → Steps (shown_of a) (Reclaim n) (Reclaimed (freed + gone) (left || rest)) (shown_of (reclaimed a q r))

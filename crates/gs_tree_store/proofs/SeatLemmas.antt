@@ -4,9 +4,8 @@ use Rattle.std.proofs.lemmas.List.{set-get_or, length-set, get_or-set_same}
 use Rattle.std.specs.List.{All}
 use Rattle.gs_model.specs.Limits.{last_number}
 use Rattle.gs_dict.specs.Numbering.{Numbered}
-use Rattle.gs_pool.specs.declared.nodes.Key.{Key}
 use Rattle.gs_pool.specs.Pool.{Nodes, aside_count}
-use Rattle.gs_tree.specs.Tree.{Tree}
+use Rattle.gs_tree.specs.Tree.{Tree, leaf}
 use Rattle.gs_staging.specs.Keys.{Grows}
 use Rattle.gs_versions.specs.Pins.{Pins, with_pin}
 use Rattle.gs_ledger.specs.Marks.{dead_at}
@@ -16,7 +15,7 @@ use Rattle.gs_datasets.specs.Standing.{dataset_at, all_versions, graph_trees, Is
 use Rattle.gs_datasets.proofs.Writing.{all_stay}
 use Rattle.gs_tree_store.specs.declared.books.Books.{Books}
 use Rattle.gs_tree_store.specs.declared.books.Seat.{Seat}
-use Rattle.gs_tree_store.specs.declared.books.Seat.TheVariants.{Idle, Reading}
+use Rattle.gs_tree_store.specs.declared.books.Seat.TheVariants.{Idle}
 use Rattle.gs_tree_store.specs.Books.{graphs_of, books_setting, dataset_of, totals_of, upload_tree, read_trees, is_reading, IsSound, IsReady, HasLedger, HasLedgerAt}
 
 -- a pin that is none
@@ -57,14 +56,19 @@ same_graphs b d q w sound grows same none commit =
         none_aside = none;
         commit = subst (λ n. n ≤ last_number) (sym commit) sound.commit;
         latest = sound.latest ∙ sym commit;
+        numbers = sound.numbers;
         base = sound.base;
       };
     }
 
+-- so they are with another pin
+pub still_sound : (b : Books) (s : ℕ) (pin : Option ℕ) → IsSound b → IsSound (record b { versions = with_pin b.versions s pin })
+still_sound b s pin sound = record { versions = sound.versions; none_aside = sound.none_aside; commit = sound.commit; latest = sound.latest; numbers = sound.numbers; base = sound.base }
+
 -- the ledger at a seat's place, where the trees there are those that the seat reads
-pub ledger_stays : (c : Books) (s : ℕ) (now : Seat) (us : List Tree) (rs : List (List Tree)) → get_or rs s [] ≡ read_trees c.pool now → s < length rs → HasLedger c (upload_tree c.pool now ∷ us) rs → HasLedgerAt c s now us (set rs s (read_trees c.pool now))
+pub ledger_stays : (c : Books) (s : ℕ) (now : Seat) (us : List Tree) (rs : List (List Tree)) → get_or rs s [] ≡ read_trees c.pool c.records now → s < length rs → HasLedger c (upload_tree c.pool now ∷ us) rs → HasLedgerAt c s now us (set rs s (read_trees c.pool c.records now))
 ledger_stays c s now us rs read there l =
-    let same : set rs s (read_trees c.pool now) ≡ rs = ap (set rs s) (sym read) ∙ set-get_or rs s [] in
+    let same : set rs s (read_trees c.pool c.records now) ≡ rs = ap (set rs s) (sym read) ∙ set-get_or rs s [] in
     record {
       ledger = subst (HasLedger c (upload_tree c.pool now ∷ us)) (sym same) l;
       there = subst (λ n. s < n) (sym (ap length same)) there;
@@ -72,10 +76,9 @@ ledger_stays c s now us rs read there l =
     }
 
 -- the end of a read: nothing is pinned, and no tree is there
-pub read_ends : (b : Books) (s : ℕ) (root : Option ℕ) (last : Option Key) (us : List Tree) (rs : List (List Tree)) → s < length b.versions.seats → HasLedgerAt b s (Reading root last) us rs → HasLedgerAt (record b { versions = with_pin b.versions s None }) s Idle us (set rs s [])
-read_ends b s root last us rs there l =
+pub read_ends : (b : Books) (s : ℕ) (us : List Tree) (rs : List (List Tree)) → s < length b.versions.seats → s < length rs → HasLedger b (leaf ∷ us) rs → HasLedgerAt (record b { versions = with_pin b.versions s None }) s Idle us (set rs s [])
+read_ends b s us rs there long k =
     let gs = graph_trees b.pool (graphs_of b) in
-    let k = l.ledger in
     record {
       ledger = record {
         once = k.once;
@@ -83,8 +86,8 @@ read_ends b s root last us rs there l =
         current = k.current;
         staged = k.staged;
         waste = k.waste;
-        read = each_seat (IsReadAt b.pool b.versions.commit gs (dead_at b.pool)) b.versions.seats rs s None [] there l.there k.read tt;
+        read = each_seat (IsReadAt b.pool b.versions.commit gs (dead_at b.pool)) b.versions.seats rs s None [] there long k.read tt;
       };
-      there = omega (arith, length-set rs s [], l.there);
-      read = get_or-set_same rs s [] [] l.there;
+      there = omega (arith, length-set rs s [], long);
+      read = get_or-set_same rs s [] [] long;
     }

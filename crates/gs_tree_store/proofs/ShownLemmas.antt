@@ -1,5 +1,6 @@
 -- A seat beside others: what it shows stays where its trees stay and terms came, and it has a pin where it reads.
 use Rattle.std.proofs.Common.{◌≡◌, ℕ, Bool, true, false, cond, nat_eq, List, [], ◌∷◌, ◌++◌, map, length, Option, Some, None, is_some, refl, sym, ap, subst, ◌∙◌}
+use Rattle.std.proofs.lemmas.List.{append-nil}
 use Rattle.std.proofs.lemmas.List.Elements.{All-head}
 use Rattle.std.specs.List.{All}
 use Rattle.gs_model.specs.Terms.{Term}
@@ -21,17 +22,26 @@ use Rattle.gs_lines.specs.Pieces.{line_at, IsCursor}
 use Rattle.gs_lines.proofs.LineLemmas.{lines_kept}
 use Rattle.gs_datasets.specs.Standing.{IsKeyed, tree_graph}
 use Rattle.gs_datasets.specs.Trees.{IsMeant, IsPlainTree, Outlasts}
-use Rattle.gs_datasets.proofs.Outlasting.{keys_outlast, keys_last}
+use Rattle.gs_datasets.proofs.Outlasting.{keys_outlast}
+use Rattle.gs_records.specs.Records.{Recorded}
+use Rattle.gs_records.specs.Order.{AreListed}
+use Rattle.gs_quads.specs.Places.{Place}
+use Rattle.gs_quads.specs.Pieces.{AreGraphs, IsQuadPlace}
+use Rattle.gs_quads.specs.Laws.{HasSame, HasTrees, ReadGoesOn}
+use Rattle.gs_quads.proofs.Lasting.{read_goes_on}
 use Rattle.gs_tree_store.specs.declared.books.Seat.{Seat}
-use Rattle.gs_tree_store.specs.declared.books.Seat.TheVariants.{Idle, Writing, Patching, Reading}
-use Rattle.gs_tree_store.specs.Books.{seat_shown, upload_tree, read_trees, is_reading, IsSeat}
+use Rattle.gs_tree_store.specs.declared.books.Seat.TheVariants.{Idle, Writing, Patching, Reading, ReadingAll}
+use Rattle.gs_tree_store.specs.Books.{seat_shown, upload_tree, read_trees, is_reading, IsSeat, HasItsVersion}
+use Rattle.gs_tree_store.proofs.VersionLemmas.{KeepsVersion, keeps_version}
 
--- what holds among some terms holds among these too: of keyed trees, of their lines, and of places to read from
+-- what holds among some terms holds among these too: of keyed trees, of their lines, of places to read from, and of reads of all graphs
 pub record Outlives (terms now : List Term) : Type 0 where
   pub trees : (t : Tree) → IsKeyed terms t → Outlasts terms now t
   pub lines : (from : Option Key) (ks : List Key) → IsCursor terms from → AllKeys (IsGiven terms) ks
       → map (line_at now) (keys_from (key_cmp now) from ks) ≡ map (line_at terms) (keys_from (key_cmp terms) from ks)
   pub cursors : (from : Option Key) → IsCursor terms from → IsCursor now from
+  pub quads : (p q : Nodes) (v : ℕ) (x y : Recorded) (from : Option Place) → AreListed x.records x.listed → AreListed y.records y.listed
+      → AreGraphs terms p v x.records → IsQuadPlace terms v x.records from → HasSame v x y → HasTrees v x.records p q → ReadGoesOn terms now p q v x y from
 
 cursor_kept : (terms more : List Term) (from : Option Key) → IsCursor terms from → IsCursor (terms ++ more) from
 cursor_kept terms more None h = tt
@@ -39,41 +49,68 @@ cursor_kept terms more (Some k) h = given_kept terms more k h
 
 -- among more terms,
 pub outlives_more : (terms more now : List Term) → now ≡ terms ++ more → Outlives terms now
-outlives_more terms more now e = subst (Outlives terms) (sym e) (record { trees = keys_outlast terms more; lines = lines_kept terms more; cursors = cursor_kept terms more })
+outlives_more terms more now e = subst (Outlives terms) (sym e) (record {
+  trees = keys_outlast terms more;
+  lines = lines_kept terms more;
+  cursors = cursor_kept terms more;
+  quads = λ p q v x y from al al_new graphs place same trees. read_goes_on terms more p q v x y al al_new graphs same trees from place;
+})
 
 -- and among the same
 pub outlives_same : (terms : List Term) → Outlives terms terms
-outlives_same terms = record { trees = keys_last terms; lines = λ from ks c g. refl; cursors = λ from c. c }
+outlives_same terms = outlives_more terms [] terms (sym (append-nil terms))
 
--- the root of a seat means the same tree in both pools
-abbrev pub KeepsSeat : Nodes → Nodes → Seat → Type 0
-KeepsSeat p q (Writing k r v o) = tree_at q v.root ≡ tree_at p v.root
-KeepsSeat p q (Reading root last) = tree_at q root ≡ tree_at p root
-KeepsSeat p q s = Unit {0}
+-- a version of which a seat reads all graphs has the same in both records
+abbrev pub ReadsSame : Recorded → Recorded → Seat → Type 0
+ReadsSame x y (ReadingAll v last) = HasSame v x y
+ReadsSame x y s = Unit {0}
 
-module _ (p q : Nodes) where
-  pub same_upload : (s : Seat) → KeepsSeat p q s → upload_tree q s ≡ upload_tree p s
+-- so it is where each pinned version has
+pub reads_same : (x y : Recorded) (pin : Option ℕ) (s : Seat) → HasItsVersion pin s → ((v : ℕ) → pin ≡ Some v → HasSame v x y) → ReadsSame x y s
+reads_same x y pin Idle is same = tt
+reads_same x y pin (Writing k r v o) is same = tt
+reads_same x y pin (Patching t r o) is same = tt
+reads_same x y pin (Reading root last) is same = tt
+reads_same x y pin (ReadingAll v last) is same = same v is
+
+-- the root of a seat means the same tree in both pools, or so do the roots of its version
+abbrev pub KeepsSeat : Nodes → Nodes → Recorded → Recorded → Seat → Type 0
+KeepsSeat p q x y (Writing k r v o) = tree_at q v.root ≡ tree_at p v.root
+KeepsSeat p q x y (Reading root last) = tree_at q root ≡ tree_at p root
+KeepsSeat p q x y (ReadingAll v last) = KeepsVersion p q x y v
+KeepsSeat p q x y s = Unit {0}
+
+module _ (p q : Nodes) (x y : Recorded) where
+  pub same_upload : (s : Seat) → KeepsSeat p q x y s → upload_tree q s ≡ upload_tree p s
   same_upload Idle h = refl
   same_upload (Writing k r v o) h = h
   same_upload (Patching t r o) h = refl
   same_upload (Reading root last) h = refl
+  same_upload (ReadingAll v last) h = refl
 
-  pub same_read : (s : Seat) → KeepsSeat p q s → read_trees q s ≡ read_trees p s
+  pub same_read : (s : Seat) → KeepsSeat p q x y s → read_trees q y s ≡ read_trees p x s
   same_read Idle h = refl
   same_read (Writing k r v o) h = refl
   same_read (Patching t r o) h = refl
   same_read (Reading root last) h = ap (λ t. t ∷ []) h
+  same_read (ReadingAll v last) h = h.reads
 
   -- so it does where its trees stand in the other pool
-  pub keeps_seat : (terms : List Term) (s : Seat) → IsSeat terms p s → IsPlainTree q (upload_tree p s) → (is_reading s ≡ true → All (IsMeant q) (read_trees p s)) → KeepsSeat p q s
-  keeps_seat terms Idle is staged read = tt
-  keeps_seat terms (Writing k r v o) is staged read = ap (tree_at q) (sym is.root_is) ∙ staged.means
-  keeps_seat terms (Patching t r o) is staged read = tt
-  keeps_seat terms (Reading root last) is staged read = ap (tree_at q) (sym is.root_is) ∙ (All-head (IsMeant q) (tree_at p root) [] (read refl)).means
+  pub keeps_seat : AreListed x.records x.listed → AreListed y.records y.listed → (terms : List Term) (s : Seat) → IsSeat terms p x s → IsPlainTree q (upload_tree p s) → (is_reading s ≡ true → All (IsMeant q) (read_trees p x s)) → ReadsSame x y s
+      → KeepsSeat p q x y s
+  keeps_seat al al_new terms Idle is staged read same = tt
+  keeps_seat al al_new terms (Writing k r v o) is staged read same = ap (tree_at q) (sym is.root_is) ∙ staged.means
+  keeps_seat al al_new terms (Patching t r o) is staged read same = tt
+  keeps_seat al al_new terms (Reading root last) is staged read same = ap (tree_at q) (sym is.root_is) ∙ (All-head (IsMeant q) (tree_at p root) [] (read refl)).means
+  keeps_seat al al_new terms (ReadingAll v last) is staged read same = keeps_version terms p q x y v al al_new is.graphs same (read refl)
 
-module _ (terms now : List Term) (more : Outlives terms now) (p q : Nodes) where
+module _ (terms now : List Term) (more : Outlives terms now) (p q : Nodes) (x y : Recorded) (al : AreListed x.records x.listed) (al_new : AreListed y.records y.listed) where
+  -- a read of all graphs goes on
+  goes_on : (v : ℕ) (last : Option Place) → IsSeat terms p x (ReadingAll v last) → KeepsVersion p q x y v → ReadGoesOn terms now p q v x y last
+  goes_on v last is kept = more.quads p q v x y last al al_new is.graphs is.place kept.same kept.trees
+
   -- such a seat is one still,
-  pub seat_stays : (s : Seat) → IsSeat terms p s → KeepsSeat p q s → IsSeat now q s
+  pub seat_stays : (s : Seat) → IsSeat terms p x s → KeepsSeat p q x y s → IsSeat now q y s
   seat_stays Idle is same = tt
   seat_stays (Writing k r v o) is same = record {
     root_is = ap root_of same ∙ is.root_is;
@@ -86,25 +123,30 @@ module _ (terms now : List Term) (more : Outlives terms now) (p q : Nodes) where
     keyed = subst (IsKeyed now) (sym same) (more.trees (tree_at p root) is.keyed).keyed;
     given = more.cursors last is.given;
   }
+  seat_stays (ReadingAll v last) is same =
+      let on = goes_on v last is same in
+      record { graphs = on.graphs; place = on.place }
 
   -- and shows what it showed
-  pub shown_stays : (s : Seat) → IsSeat terms p s → KeepsSeat p q s → seat_shown now q s ≡ seat_shown terms p s
+  pub shown_stays : (s : Seat) → IsSeat terms p x s → KeepsSeat p q x y s → seat_shown now q y s ≡ seat_shown terms p x s
   shown_stays Idle is same = refl
   shown_stays (Writing k r v o) is same = ap (λ g. phase.Writing k r g) (ap (tree_graph now) same ∙ (more.trees (tree_at p v.root) is.keyed).same)
   shown_stays (Patching t r o) is same = refl
   shown_stays (Reading root last) is same =
       ap (λ ls. phase.Reading ls) (ap (λ t. map (line_at now) (keys_from (key_cmp now) last (keys t))) same ∙ more.lines last (keys (tree_at p root)) is.given is.keyed.given)
+  shown_stays (ReadingAll v last) is same = ap (λ ls. phase.Reading ls) (goes_on v last is same).lines
 
 -- whether a seat is seen to read
 abbrev reads_now : SeatView → Bool
 reads_now (phase.Reading left) = true
 reads_now p = false
 
-reads_shown : (terms : List Term) (p : Nodes) (s : Seat) → reads_now (seat_shown terms p s) ≡ is_reading s
-reads_shown terms p Idle = refl
-reads_shown terms p (Writing k r v o) = refl
-reads_shown terms p (Patching t r o) = refl
-reads_shown terms p (Reading root last) = refl
+reads_shown : (terms : List Term) (p : Nodes) (x : Recorded) (s : Seat) → reads_now (seat_shown terms p x s) ≡ is_reading s
+reads_shown terms p x Idle = refl
+reads_shown terms p x (Writing k r v o) = refl
+reads_shown terms p x (Patching t r o) = refl
+reads_shown terms p x (Reading root last) = refl
+reads_shown terms p x (ReadingAll v last) = refl
 
 begins : (b : Bool) (commit : ℕ) (pin : Option ℕ) (left : List (List ℕ)) → is_some pin ≡ false → is_some (cond b (Some commit) pin) ≡ reads_now (cond b (phase.Reading left) phase.Idle)
 begins true commit pin left e = refl
@@ -136,10 +178,10 @@ pin_follows v commit pin (phase.Reading left) Cancel Cancelled fits e = refl
 pin_follows v commit pin p action a fits e = e
 
 -- after an action the seat has a pin exactly where it reads
-pub pin_is : (v : Totals) (commit : ℕ) (pin : Option ℕ) (terms now : List Term) (p q : Nodes) (was s : Seat) (action : Action) (a : Answer)
-    → FitsSeat v (seat_shown terms p was) action a → is_some pin ≡ is_reading was → seat_shown now q s ≡ next_phase v (seat_shown terms p was) action a
+pub pin_is : (v : Totals) (commit : ℕ) (pin : Option ℕ) (terms now : List Term) (p q : Nodes) (x y : Recorded) (was s : Seat) (action : Action) (a : Answer)
+    → FitsSeat v (seat_shown terms p x was) action a → is_some pin ≡ is_reading was → seat_shown now q y s ≡ next_phase v (seat_shown terms p x was) action a
     → is_some (pin_after commit pin action a) ≡ is_reading s
-pin_is v commit pin terms now p q was s action a fits flag next =
-    pin_follows v commit pin (seat_shown terms p was) action a fits (flag ∙ sym (reads_shown terms p was))
-    ∙ sym (ap (λ x. reads_now x) next)
-    ∙ reads_shown now q s
+pin_is v commit pin terms now p q x y was s action a fits flag next =
+    pin_follows v commit pin (seat_shown terms p x was) action a fits (flag ∙ sym (reads_shown terms p x was))
+    ∙ sym (ap (λ z. reads_now z) next)
+    ∙ reads_shown now q y s

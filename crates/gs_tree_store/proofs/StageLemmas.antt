@@ -62,6 +62,7 @@ refused_here b s k r v o ts d grows ready =
       pins = sym (set-get_or b.versions.seats s None);
       sound = kept.sound;
       known = record { root_is = ready.known.root_is; keyed = outlasts.keyed; counted = ready.known.counted };
+      version = tt;
       grows = grows;
       ledgers = λ us rs l. record { ledger = ledger_stays (record b { dict = d }) s (Writing k r v o) us rs l.read l.there l.ledger; waste = refl };
       takes = refl;
@@ -105,6 +106,7 @@ staged b s k r birth v o ts d q m born grows stages ready =
         keyed = record { balanced = u.set.balanced; rising = u.set.rising; given = stages.staged.given };
         counted = ap (λ n. n + m.added) ready.known.counted ∙ sym u.counted;
       };
+      version = tt;
       grows = grows;
       ledgers = λ us rs l. record {
         ledger = ledger_stays now s (Writing k r (record { root = m.root; triples = v.triples + m.added }) o) us rs l.read l.there (moved_ledger b d q birth old new grows ready.sound u.step tree none some.uploads some.reads some.ledger.ledger us rs l.ledger);

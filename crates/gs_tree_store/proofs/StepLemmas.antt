@@ -17,6 +17,7 @@ use Rattle.gs_pool.specs.Pool.{in_use}
 use Rattle.gs_ledger.specs.Marks.{waste_at}
 use Rattle.gs_records.specs.Waste.{waste_in, used_count}
 use Rattle.gs_records.specs.Uses.{AreUsed}
+use Rattle.gs_records.specs.Order.{AreListed}
 use Rattle.gs_tree_store.specs.declared.books.Seat.{Seat}
 use Rattle.gs_tree_store.specs.declared.stores.TreeStore.TheInside.{Inside}
 use Rattle.gs_tree_store.specs.Books.{totals_of, seat_view_by}
@@ -28,20 +29,21 @@ use Rattle.gs_tree_store.proofs.JoinLemmas.{both_waste, both_take}
 use Rattle.gs_tree_store.proofs.CountLemmas.{nodes_kept}
 use Rattle.gs_tree_store.proofs.KeptLemmas.{goes_on, others_shown}
 
-module _ (a b : Inside) (s : ℕ) (was now : Seat) (action : Action) (answer : Answer) (kept : IsKept a) (within : s < length a.seats.items) (is : was ≡ get_or a.seats.items s was) (seats : b.seats.items ≡ set a.seats.items s now) (acts : Acts a.books b.books s was now action answer) (keeps : KeepsRecords a.books b.books was now action answer) where
+module _ (a b : Inside) (s : ℕ) (was now : Seat) (action : Action) (answer : Answer) (kept : IsKept a) (within : s < length a.seats.items) (is : was ≡ get_or a.seats.items s was) (seats : b.seats.items ≡ set a.seats.items s now) (acts : Acts a.books b.books s was now action answer) (keeps : KeepsRecords a.books b.books was now action answer)
+    (al : AreListed a.books.records.records a.books.records.listed) (al_new : AreListed b.books.records.records b.books.records.listed) where
   seat_there : slice_get (shown_of a).view.seats s ≡ Some (seat_view_by a.books was)
   seat_there = slice_get-map (seat_view_by a.books) a.seats.items s ∙ ap (option_map (seat_view_by a.books)) (slice_get-get_or a.seats.items s was within ∙ ap Some (sym is))
 
   next_shown : (shown_of b).view ≡ next_if (shown_of a).view s (slice_get (shown_of a).view.seats s) action answer
   next_shown =
-      let seen : map (seat_view_by b.books) b.seats.items ≡ slice_set (map (seat_view_by a.books) a.seats.items) s _ = others_shown a b s was now action answer kept within is seats acts ∙ ap (slice_set (map (seat_view_by a.books) a.seats.items) s) acts.seat in
+      let seen : map (seat_view_by b.books) b.seats.items ≡ slice_set (map (seat_view_by a.books) a.seats.items) s _ = others_shown a b s was now action answer kept within is seats acts keeps al al_new ∙ ap (slice_set (map (seat_view_by a.books) a.seats.items) s) acts.seat in
       let made : (shown_of b).view ≡ next_at (shown_of a).view s (seat_view_by a.books was) action answer = λ j. record { totals = acts.totals j; seats = seen j } in
       made ∙ sym (ap (λ o. next_if (shown_of a).view s o action answer) seat_there)
 
   -- the waste of nodes, and that of records
   both_wasted : WastesBoth (totals_of a.books) (seat_view_by a.books was) action answer (shown_of a).waste (shown_of b).waste
   both_wasted = both_waste (totals_of a.books) (seat_view_by a.books was) action answer (waste_at a.books.pool) (waste_at b.books.pool) (waste_in a.books.records.records) (waste_in b.books.records.records)
-      (goes_on a b s was now action answer kept within is seats acts).waste keeps.waste
+      (goes_on a b s was now action answer kept within is seats acts keeps al al_new).waste keeps.waste
 
   own_step : Steps (shown_of a) (At s action) answer (shown_of b)
   own_step = record {

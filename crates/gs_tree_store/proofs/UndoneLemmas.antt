@@ -1,5 +1,5 @@
 -- A draft that was given up: the books are as they were, but that there may be more terms.
-use Rattle.std.proofs.Common.{◌≡◌, ◌+◌, ℕ, false, set, List, [], ◌∷◌, length, get_or, None, refl, sym, ap, subst, ◌∙◌, true≢false}
+use Rattle.std.proofs.Common.{◌≡◌, ◌+◌, ℕ, false, set, List, [], ◌∷◌, map, length, get_or, None, refl, sym, ap, subst, ◌∙◌, true≢false}
 use Rattle.std.proofs.lemmas.List.{set-get_or}
 use Rattle.gs_event.specs.declared.events.Action.{Action}
 use Rattle.gs_event.specs.declared.answers.Answer.{Answer}
@@ -21,10 +21,11 @@ use Rattle.gs_commit.proofs.LawLemmas.{restored_same}
 use Rattle.gs_datasets.specs.Standing.{all_versions, graph_trees, tree_graph, IsKeyed, IsVersion}
 use Rattle.gs_datasets.specs.Trees.{Outlasts}
 use Rattle.gs_datasets.proofs.Outlasting.{keys_outlast}
+use Rattle.gs_quads.specs.Places.{root_at, version_numbers}
 use Rattle.gs_tree_store.specs.declared.books.Books.{Books}
 use Rattle.gs_tree_store.specs.declared.books.Seat.{Seat}
-use Rattle.gs_tree_store.specs.declared.books.Seat.TheVariants.{Idle, Writing, Patching, Reading}
-use Rattle.gs_tree_store.specs.Books.{graphs_of, books_setting, dataset_of, totals_of, seat_view_by, upload_tree, read_trees, is_reading, IsSeat, IsSound, IsReady, HasLedgerAt}
+use Rattle.gs_tree_store.specs.declared.books.Seat.TheVariants.{Idle, Writing, Patching, Reading, ReadingAll}
+use Rattle.gs_tree_store.specs.Books.{graphs_of, books_setting, dataset_of, totals_of, seat_view_by, upload_tree, read_trees, is_reading, IsSeat, HasItsVersion, IsSound, IsReady, HasLedgerAt}
 use Rattle.gs_tree_store.specs.Actions.{TakesNodes, Acts}
 use Rattle.gs_tree_store.proofs.SeatLemmas.{SameGraphs, same_graphs, same_totals, ledger_stays}
 
@@ -58,29 +59,33 @@ module _ (b : Books) (d : Numbered) (q : Nodes) (grows : Grows b.dict d) (restor
     }
 
   -- and so is what a seat shows that does not read
-  view_same : (seat : Seat) → is_reading seat ≡ false → IsSeat b.dict.terms b.pool seat → seat_view_by (with_nodes b d q) seat ≡ seat_view_by b seat
+  view_same : (seat : Seat) → is_reading seat ≡ false → IsSeat b.dict.terms b.pool b.records seat → seat_view_by (with_nodes b d q) seat ≡ seat_view_by b seat
   view_same Idle none known = refl
   view_same (Writing k r v o) none known = ap (λ g. phase.Writing k r g) (graph_same v known)
   view_same (Patching t r o) none known = refl
   view_same (Reading root last) none known = absurd (true≢false none)
+  view_same (ReadingAll v last) none known = absurd (true≢false none)
 
-  known_same : (seat : Seat) → is_reading seat ≡ false → IsSeat b.dict.terms b.pool seat → IsSeat d.terms q seat
+  known_same : (seat : Seat) → is_reading seat ≡ false → IsSeat b.dict.terms b.pool b.records seat → IsSeat d.terms q b.records seat
   known_same Idle none known = tt
   known_same (Writing k r v o) none known = version_same v known
   known_same (Patching t r o) none known = tt
   known_same (Reading root last) none known = absurd (true≢false none)
+  known_same (ReadingAll v last) none known = absurd (true≢false none)
 
   upload_same : (seat : Seat) → upload_tree q seat ≡ upload_tree b.pool seat
   upload_same Idle = refl
   upload_same (Writing k r v o) = same.roots v.root
   upload_same (Patching t r o) = refl
   upload_same (Reading root last) = refl
+  upload_same (ReadingAll v last) = refl
 
-  read_same : (seat : Seat) → read_trees q seat ≡ read_trees b.pool seat
+  read_same : (seat : Seat) → read_trees q b.records seat ≡ read_trees b.pool b.records seat
   read_same Idle = refl
   read_same (Writing k r v o) = refl
   read_same (Patching t r o) = refl
   read_same (Reading root last) = ap (λ t. t ∷ []) (same.roots root)
+  read_same (ReadingAll v last) = λ i. map (λ (n : ℕ). same.roots (root_at b.records.records n) i) (version_numbers v b.records)
 
   ledger_same : (s : ℕ) (seat : Seat) (us : List Tree) (rs : List (List Tree)) → HasLedgerAt b s seat us rs → HasLedgerAt (with_nodes b d q) s seat us rs
   ledger_same s seat us rs l =
@@ -99,6 +104,7 @@ module _ (b : Books) (d : Numbered) (q : Nodes) (grows : Grows b.dict d) (restor
     known = known_same seat none ready.known;
     there = ready.there;
     pinned = ready.pinned;
+    version = ready.version;
     ledger = record { uploads = ready.ledger.uploads; reads = ready.ledger.reads; ledger = ledger_same s seat ready.ledger.uploads ready.ledger.reads ready.ledger.ledger };
   }
 
@@ -113,7 +119,7 @@ module _ (b : Books) (d : Numbered) (q : Nodes) (grows : Grows b.dict d) (restor
   undone_version = version_same
 
   -- what an action makes of them then, it makes of what they were
-  pub undone_acts : (new : Books) (s : ℕ) (was now : Seat) (action : Action) (answer : Answer) → is_reading was ≡ false → IsSeat b.dict.terms b.pool was
+  pub undone_acts : (new : Books) (s : ℕ) (was now : Seat) (action : Action) (answer : Answer) → is_reading was ≡ false → IsSeat b.dict.terms b.pool b.records was
       → Acts (with_nodes b d q) new s was now action answer → Acts b new s was now action answer
   undone_acts new s was now action answer none known acts =
       let mid = with_nodes b d q in
@@ -125,6 +131,7 @@ module _ (b : Books) (d : Numbered) (q : Nodes) (grows : Grows b.dict d) (restor
         pins = acts.pins;
         sound = acts.sound;
         known = acts.known;
+        version = acts.version;
         grows = grows_twice b.dict d new.dict grows acts.grows;
         ledgers = λ us rs l.
             let on = acts.ledgers us rs (ledger_same s was us rs l) in
@@ -152,6 +159,7 @@ nothing_done b s seat action a fits totals phase pin waste takes ready = record 
   pins = sym (ap (set b.versions.seats s) pin ∙ set-get_or b.versions.seats s None);
   sound = ready.sound;
   known = ready.known;
+  version = subst (λ x. HasItsVersion x seat) (sym pin) ready.version;
   grows = still_grows b.dict b.dict refl;
   ledgers = λ us rs l. record { ledger = ledger_stays b s seat us rs l.read l.there l.ledger; waste = waste };
   takes = takes;

@@ -115,6 +115,7 @@ commit_refused b s k r v o fits ready = record {
   pins = sym (set-get_or b.versions.seats s None);
   sound = ready.sound;
   known = ready.known;
+  version = tt;
   grows = still_grows b.dict b.dict refl;
   ledgers = λ us rs l. record { ledger = subst (HasLedgerAt b s (Writing k r v o) us) (sym (set_there rs s [] [] l.read)) l; waste = refl };
   takes = refused_takes k r (upload_graph b v) LastNumber (in_use b.pool);
@@ -135,6 +136,7 @@ module _ (b : Books) (q : Nodes) (sound : IsSound b) (same : AreSameIn b.pool q 
     none_aside = none;
     commit = sound.commit;
     latest = sound.latest;
+    numbers = sound.numbers;
     base = sound.base;
   }
 
@@ -155,7 +157,7 @@ commit_failed b q x s k r v o now same none drops used not name ready =
     let gs = graph_trees b.pool (graphs_of b) in
     let dataset = same_dataset b q ready.sound same in
     let size : length (keys (tree_at b.pool v.root)) ≡ size_of g = sym ready.known.counted ∙ size_of_version b.dict.terms b.pool v ready.known in
-    acts_alike (record b { pool = q }) x now b s (Writing k r v o) Idle Commit (Status 507 None)
+    acts_alike (record b { pool = q }) x now b s (Writing k r v o) Commit (Status 507 None)
     (record {
       fits = (not.status_is, name, λ e. absurd (true≢false (sym e)));
       totals = λ i. record { setting = books_setting b; dataset = (dataset ∙ sym not.dataset) i; request = sym (add-zero b.request) i; commit = sym (add-zero b.versions.commit) i };
@@ -163,6 +165,7 @@ commit_failed b q x s k r v o now same none drops used not name ready =
       pins = sym (set-get_or b.versions.seats s None);
       sound = still_sound b q ready.sound same none;
       known = tt;
+      version = tt;
       grows = still_grows b.dict b.dict refl;
       ledgers = λ us rs l.
           let d : DropsUpload b.versions b.pool q (tree_at b.pool v.root) gs us rs = drops b.versions gs us rs l.ledger in
@@ -191,6 +194,7 @@ commit_stored old new s k r v o t status name puts number stored reported wastes
       pins = kept.pins ∙ sym (set-get_or old.versions.seats s None);
       sound = puts.sound;
       known = tt;
+      version = tt;
       grows = still_grows old.dict new.dict kept.dict;
       ledgers = λ us rs l.
           let e : EndsOneVersion old new (size_at (dataset_of old) t) us rs = puts.ledgers us rs l.ledger in
@@ -225,6 +229,7 @@ deleted old new s t status removes there is number ready =
       pins = kept.pins ∙ sym (set-get_or old.versions.seats s None);
       sound = removes.sound;
       known = tt;
+      version = tt;
       grows = still_grows old.dict new.dict kept.dict;
       ledgers = λ us rs l.
           let e : EndsOneVersion old new (size_at m t) us rs = removes.ledgers us rs ((leaf_upload old.pool old.versions (graph_trees old.pool (graphs_of old)) us rs (dead_at old.pool)).1 l.ledger) in

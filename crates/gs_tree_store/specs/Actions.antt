@@ -17,7 +17,7 @@ use Rattle.gs_staging.specs.Keys.{Grows}
 use Rattle.gs_ledger.specs.Marks.{waste_at}
 use Rattle.gs_tree_store.specs.declared.books.Books.{Books}
 use Rattle.gs_tree_store.specs.declared.books.Seat.{Seat}
-use Rattle.gs_tree_store.specs.Books.{totals_of, seat_view_by, read_trees, IsSeat, IsSound, IsReady, HasLedgerAt}
+use Rattle.gs_tree_store.specs.Books.{totals_of, seat_view_by, read_trees, IsSeat, HasItsVersion, IsSound, IsReady, HasLedgerAt}
 
 -- as many, unless it took effect
 abbrev pub SameUnless : Bool → ℕ → ℕ → Type 0
@@ -43,7 +43,7 @@ TakesNodes p action a old new = new ≡ old
 
 -- where there was a ledger with the trees of the other seats, there is one still, and the waste of nodes is what the action makes of it
 pub record GoesOn (old new : Books) (s : ℕ) (was now : Seat) (action : Action) (answer : Answer) (uploads : List Tree) (reads : List (List Tree)) : Type 0 where
-  pub ledger : HasLedgerAt new s now uploads (slice_set reads s (read_trees new.pool now))
+  pub ledger : HasLedgerAt new s now uploads (slice_set reads s (read_trees new.pool new.records now))
   pub waste : WastesNodes (totals_of old) (seat_view_by old was) action answer (waste_at old.pool) (waste_at new.pool)
 
 -- that is so whatever trees the other seats have
@@ -58,7 +58,8 @@ pub record Acts (old new : Books) (s : ℕ) (was now : Seat) (action : Action) (
   pub seat : seat_view_by new now ≡ next_phase (totals_of old) (seat_view_by old was) action answer
   pub pins : new.versions.seats ≡ slice_set old.versions.seats s (pin_after old.versions.commit (slice_index_or old.versions.seats s None) action answer)
   pub sound : IsSound new
-  pub known : IsSeat new.dict.terms new.pool now
+  pub known : IsSeat new.dict.terms new.pool new.records now
+  pub version : HasItsVersion (pin_after old.versions.commit (slice_index_or old.versions.seats s None) action answer) now
   pub grows : Grows old.dict new.dict
   pub ledgers : GoesOnAll old new s was now action answer
   pub takes : TakesNodes (seat_view_by old was) action answer (in_use old.pool) (in_use new.pool)

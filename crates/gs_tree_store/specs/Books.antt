@@ -1,9 +1,9 @@
 -- What the books and the seats of a store over trees show, and what is true of them. No public clause cites this module.
-use Rattle.std.specs.Prelude.{◌≡◌, ◌<◌, ◌≤◌, ℕ, Bool, true, false, List, [], ◌∷◌, length, Option, None, string_bytes, slice_index_or, is_some}
+use Rattle.std.specs.Prelude.{◌≡◌, ◌+◌, ◌<◌, ◌≤◌, ℕ, Bool, true, false, List, [], ◌∷◌, length, map, Option, Some, None, string_bytes, slice_index_or, is_some}
 use Rattle.std.specs.List.{All}
 use Rattle.gs_model.specs.Terms.{Term}
 use Rattle.gs_model.specs.Bases.{is_base}
-use Rattle.gs_model.specs.Limits.{last_number}
+use Rattle.gs_model.specs.Limits.{last_number, last_node}
 use Rattle.gs_term.specs.declared.names.Target.{Target}
 use Rattle.gs_event.specs.Datasets.{Dataset}
 use Rattle.gs_event.specs.Operations.{Setting}
@@ -15,13 +15,16 @@ use Rattle.gs_keys.specs.Roots.{graph_of_root}
 use Rattle.gs_lines.specs.Pieces.{lines_from, IsCursor}
 use Rattle.gs_catalogue.specs.declared.versions.GraphVersion.{GraphVersion}
 use Rattle.gs_catalogue.specs.Catalogues.{GraphVersions, version_at}
+use Rattle.gs_records.specs.Records.{Recorded}
 use Rattle.gs_records.specs.Graphs.{current}
+use Rattle.gs_quads.specs.Places.{Place, root_at, version_numbers, quads_left}
+use Rattle.gs_quads.specs.Pieces.{AreGraphs, IsQuadPlace}
 use Rattle.gs_ledger.specs.Marks.{dead_at}
 use Rattle.gs_ledger.specs.Ledger.{IsLedger}
 use Rattle.gs_datasets.specs.Standing.{dataset_at, all_versions, graph_trees, IsKeyed, IsVersion}
 use Rattle.gs_tree_store.specs.declared.books.Books.{Books}
 use Rattle.gs_tree_store.specs.declared.books.Seat.{Seat}
-use Rattle.gs_tree_store.specs.declared.books.Seat.TheVariants.{Idle, Writing, Patching, Reading}
+use Rattle.gs_tree_store.specs.declared.books.Seat.TheVariants.{Idle, Writing, Patching, Reading, ReadingAll}
 
 -- the base and the limits of the books
 abbrev pub books_setting : Books → Setting
@@ -48,30 +51,38 @@ totals_of b = record {
   commit = b.versions.commit;
 }
 
--- a seat as it is seen: an upload is the graph of its tree, and a read the lines of its tree after the last that was given
-abbrev pub seat_shown : List Term → Nodes → Seat → SeatView
-seat_shown terms p Idle = phase.Idle
-seat_shown terms p (Writing k r v n) = phase.Writing k r (graph_of_root terms p v.root)
-seat_shown terms p (Patching t r n) = phase.Patching t r
-seat_shown terms p (Reading root last) = phase.Reading (lines_from terms p root last)
+-- a seat as it is seen: an upload is the graph of its tree, and a read the lines of its tree, or of all graphs of its version, after the
+-- last that was given
+abbrev pub seat_shown : List Term → Nodes → Recorded → Seat → SeatView
+seat_shown terms p rs Idle = phase.Idle
+seat_shown terms p rs (Writing k r v n) = phase.Writing k r (graph_of_root terms p v.root)
+seat_shown terms p rs (Patching t r n) = phase.Patching t r
+seat_shown terms p rs (Reading root last) = phase.Reading (lines_from terms p root last)
+seat_shown terms p rs (ReadingAll v last) = phase.Reading (quads_left terms p v rs last)
 
 -- the same, by the books
 abbrev pub seat_view_by : Books → Seat → SeatView
-seat_view_by b s = seat_shown b.dict.terms b.pool s
+seat_view_by b s = seat_shown b.dict.terms b.pool b.records s
 
 -- the tree of the seat's upload, a leaf where it has none
 abbrev pub upload_tree : Nodes → Seat → Tree
 upload_tree p (Writing k r v n) = tree_at p v.root
 upload_tree p s = leaf
 
--- the trees that the seat reads: the one of its read, and none where it does not read
-abbrev pub read_trees : Nodes → Seat → List Tree
-read_trees p (Reading root last) = tree_at p root ∷ []
-read_trees p s = []
+-- the trees of the graphs of version v of the dataset
+abbrev pub version_trees : Nodes → Recorded → ℕ → List Tree
+version_trees p rs v = map (λ n. tree_at p (root_at rs.records n)) (version_numbers v rs)
+
+-- the trees that the seat reads: the one of its read, or those of its version, and none where it does not read
+abbrev pub read_trees : Nodes → Recorded → Seat → List Tree
+read_trees p rs (Reading root last) = tree_at p root ∷ []
+read_trees p rs (ReadingAll v last) = version_trees p rs v
+read_trees p rs s = []
 
 -- whether the seat reads
 abbrev pub is_reading : Seat → Bool
 is_reading (Reading root last) = true
+is_reading (ReadingAll v last) = true
 is_reading s = false
 
 -- a root and the last key given of it: the root means a tree in order, and the key's numbers were given
@@ -80,18 +91,30 @@ pub record IsReadFrom (terms : List Term) (p : Nodes) (root : Option ℕ) (last 
   pub keyed : IsKeyed terms (tree_at p root)
   pub given : IsCursor terms last
 
--- what is true of a seat: its upload is the version of a graph, and its read one of such a tree
-abbrev pub IsSeat : List Term → Nodes → Seat → Type 0
-IsSeat terms p (Writing k r v n) = IsVersion terms p v
-IsSeat terms p (Reading root last) = IsReadFrom terms p root last
-IsSeat terms p s = Unit {0}
+-- version v has graphs, and the place is one of it
+pub record IsReadOfAll (terms : List Term) (p : Nodes) (rs : Recorded) (v : ℕ) (last : Option Place) : Type 0 where
+  pub graphs : AreGraphs terms p v rs.records
+  pub place : IsQuadPlace terms v rs.records last
 
--- what is true of the books alone
+-- what is true of a seat: its upload is the version of a graph, and its read one of such a tree, or of all graphs of a version
+abbrev pub IsSeat : List Term → Nodes → Recorded → Seat → Type 0
+IsSeat terms p rs (Writing k r v n) = IsVersion terms p v
+IsSeat terms p rs (Reading root last) = IsReadFrom terms p root last
+IsSeat terms p rs (ReadingAll v last) = IsReadOfAll terms p rs v last
+IsSeat terms p rs s = Unit {0}
+
+-- a read of all graphs is of the version that its seat has pinned
+abbrev pub HasItsVersion : Option ℕ → Seat → Type 0
+HasItsVersion pin (ReadingAll v last) = pin ≡ Some v
+HasItsVersion pin s = Unit {0}
+
+-- what is true of the books alone: there may be as many records as there are numbers of nodes
 pub record IsSound (b : Books) : Type 0 where
   pub versions : All (IsVersion b.dict.terms b.pool) (all_versions (graphs_of b))
   pub none_aside : aside_count b.pool ≡ 0
   pub commit : b.versions.commit ≤ last_number
   pub latest : b.records.latest ≡ b.versions.commit
+  pub numbers : b.records.limit ≡ last_node + 1
   pub base : is_base (string_bytes b.base) ≡ true
 
 -- the ledger of the books, with these trees of uploads and of reads
@@ -102,7 +125,7 @@ HasLedger b uploads reads = IsLedger b.pool b.versions (graph_trees b.pool (grap
 pub record HasLedgerAt (b : Books) (s : ℕ) (seat : Seat) (uploads : List Tree) (reads : List (List Tree)) : Type 0 where
   pub ledger : HasLedger b (upload_tree b.pool seat ∷ uploads) reads
   pub there : s < length reads
-  pub read : slice_index_or reads s [] ≡ read_trees b.pool seat
+  pub read : slice_index_or reads s [] ≡ read_trees b.pool b.records seat
 
 -- some trees of the other seats have a ledger with the books and this seat
 pub record HasSomeLedger (b : Books) (s : ℕ) (seat : Seat) : Type 0 where
@@ -113,7 +136,8 @@ pub record HasSomeLedger (b : Books) (s : ℕ) (seat : Seat) : Type 0 where
 -- books and one of their seats, before an action
 pub record IsReady (b : Books) (s : ℕ) (seat : Seat) : Type 0 where
   pub sound : IsSound b
-  pub known : IsSeat b.dict.terms b.pool seat
+  pub known : IsSeat b.dict.terms b.pool b.records seat
   pub there : s < length b.versions.seats
   pub pinned : is_some (slice_index_or b.versions.seats s None) ≡ is_reading seat
+  pub version : HasItsVersion (slice_index_or b.versions.seats s None) seat
   pub ledger : HasSomeLedger b s seat

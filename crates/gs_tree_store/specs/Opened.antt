@@ -1,5 +1,5 @@
 -- The records that the seats of a store have open, one for each upload and each patch. No public clause cites this module.
-use Rattle.std.specs.Prelude.{◌≡◌, ◌≢◌, ℕ, ◌+◌, List, Option, Some, None, slice_index_or}
+use Rattle.std.specs.Prelude.{◌≡◌, ◌≢◌, ◌≤◌, ℕ, ◌+◌, List, Option, Some, None, slice_index_or}
 use Rattle.std.specs.List.{sum_by}
 use Rattle.gs_event.specs.declared.events.Action.{Action}
 use Rattle.gs_event.specs.declared.events.Action.TheVariants.{Open, OpenPatch}
@@ -8,6 +8,7 @@ use Rattle.gs_event.specs.declared.answers.Answer.TheVariants.{Opened}
 use Rattle.gs_event.specs.Steps.{WastesRecords}
 use Rattle.gs_records.specs.Records.{opened, record_at}
 use Rattle.gs_records.specs.Waste.{waste_in, open_count, used_count}
+use Rattle.gs_quads.specs.Laws.{HasSame}
 use Rattle.gs_tree_store.specs.declared.books.Books.{Books}
 use Rattle.gs_tree_store.specs.declared.books.Seat.{Seat}
 use Rattle.gs_tree_store.specs.declared.books.Seat.TheVariants.{Idle, Writing, Patching}
@@ -55,12 +56,13 @@ TakesRecords (OpenPatch t) (Opened r) old new = new ≡ old + 1
 TakesRecords action a old new = new ≡ old
 
 -- The seat's record is open, if it was, and beside it is open what was open beside that of the seat before. As many are open as the seat
--- says, as many are in use as its action says, and so of their waste.
+-- says, as many are in use as its action says, and so of their waste. Each version up to the last has the graphs that it had.
 pub record KeepsRecords (old new : Books) (was now : Seat) (action : Action) (answer : Answer) : Type 0 where
   pub own : HasRecord old was → HasRecord new now
   pub others : (n : ℕ) → IsOther old was n → IsOther new now n
   pub no_more : (n : ℕ) → IsOther new now n → IsOther old was n
   pub opens : open_count new.records.records + own_count was ≡ open_count old.records.records + own_count now
+  pub same : (v : ℕ) → v ≤ old.versions.commit → HasSame v old.records new.records
   pub takes : TakesRecords action answer (used_count old.records.records) (used_count new.records.records)
   pub waste : WastesRecords (totals_of old) (seat_view_by old was) action answer (waste_in old.records.records) (waste_in new.records.records)
 

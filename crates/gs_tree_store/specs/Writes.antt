@@ -1,5 +1,5 @@
 -- What a write makes of the books. No public clause cites this module.
-use Rattle.std.specs.Prelude.{◌≡◌, ℕ, ◌+◌, true, List, ◌∷◌, string_bytes}
+use Rattle.std.specs.Prelude.{◌≡◌, ℕ, ◌+◌, ◌≤◌, true, List, ◌∷◌, string_bytes}
 use Rattle.gs_term.specs.declared.names.Target.{Target}
 use Rattle.gs_event.specs.Datasets.{with_graph, without_graph, size_at}
 use Rattle.gs_event.specs.Steps.{Joins, EndsAt, CommitRecords, DeleteRecords}
@@ -9,6 +9,7 @@ use Rattle.gs_catalogue.specs.declared.versions.GraphVersion.{GraphVersion}
 use Rattle.gs_ledger.specs.Marks.{waste_at}
 use Rattle.gs_records.specs.Waste.{waste_in}
 use Rattle.gs_records.specs.Calls.{KeepsCounts, UsesOne}
+use Rattle.gs_quads.specs.Laws.{HasSame}
 use Rattle.gs_datasets.specs.Standing.{IsVersion}
 use Rattle.gs_tree_store.specs.declared.books.Books.{Books}
 use Rattle.gs_tree_store.specs.Books.{totals_of, dataset_of, IsSound, HasLedger}
@@ -49,6 +50,7 @@ pub record Puts (old new : Books) (n : ℕ) (t : Target) (v : GraphVersion) : Ty
   pub sound : IsSound new
   pub ledgers : (uploads : List Tree) (reads : List (List Tree)) → HasLedger old (tree_at old.pool v.root ∷ uploads) reads → EndsOneVersion old new (size_at (dataset_of old) t) uploads reads
   pub lets_go : LetsGo old new n
+  pub same : (w : ℕ) → w ≤ old.versions.commit → HasSame w old.records new.records
   pub counts : UsesOne old.records.records new.records.records
   pub waste : CommitRecords (totals_of old) t (graph_of_root old.dict.terms old.pool v.root) (waste_in old.records.records) (waste_in new.records.records)
 
@@ -59,5 +61,6 @@ pub record Removes (old new : Books) (t : Target) : Type 0 where
   pub sound : IsSound new
   pub ledgers : (uploads : List Tree) (reads : List (List Tree)) → HasLedger old uploads reads → EndsOneVersion old new (size_at (dataset_of old) t) uploads reads
   pub same_opened : SameOpened old new
+  pub same : (w : ℕ) → w ≤ old.versions.commit → HasSame w old.records new.records
   pub counts : KeepsCounts old.records.records new.records.records
   pub waste : DeleteRecords (totals_of old) t true (waste_in old.records.records) (waste_in new.records.records)

@@ -33,8 +33,8 @@ pub fn act(
         Action::Commit => writes::commit(books, seat, alloc),
         Action::CommitPatch(operations) => patches::commit(books, seat, alloc, operations),
         Action::Delete(target) => writes::delete(books, seat, target),
-        Action::Head(target) => reads::head(books, seat, target),
-        Action::Pin(target) => reads::pin(books, seat, number, target),
+        Action::Head(scope) => reads::head(books, seat, scope),
+        Action::Pin(scope) => reads::pin(books, seat, number, scope),
         Action::Piece(count) => reads::piece(books, seat, number, alloc, *count),
         Action::Cancel => cancel(books, seat, number),
     }
@@ -106,6 +106,7 @@ fn cancel(books: &mut Books, seat: &mut Seat, number: u16) -> Answer
         }
         Seat::Patching(_, _, opened) => books.records.give_up(*opened),
         Seat::Reading(_, _) => books.versions.unpin(number),
+        Seat::ReadingAll(_, _) => books.versions.unpin(number),
     }
     *seat = Seat::Idle;
     Answer::Cancelled

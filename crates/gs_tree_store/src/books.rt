@@ -24,6 +24,9 @@ pub enum Seat {
     Patching(Target, u64, u32),
     /// A read: the root of its tree, and the key of the last line that was given.
     Reading(Option<u32>, Option<Key>),
+    /// A read of all graphs: the version of the dataset, and the place of the last line that was given,
+    /// which is the number of a record and a key of its graph.
+    ReadingAll(u64, Option<(u32, Key)>),
 }
 
 /// The numbers given out, the terms by number, the nodes of all trees, and the versions of all graphs.

@@ -24,8 +24,8 @@ use std::alloc::{AllocError, Global};
 use std::marker::Model;
 
 /// A store that keeps all versions of all graphs as trees over one pool, which share what they have in
-/// common. A write costs what it changes, a read holds its version, and nodes that no version needs are
-/// given back by a Reclaim. A contract sees what it shows, and its waste.
+/// common. A write costs what it changes, a read holds its version, and nodes and records that no version
+/// needs are given back by a Reclaim. A contract sees what it shows, and its waste.
 #[derive(Drop)]
 pub struct TreeStore {
     alloc: Global,
@@ -122,9 +122,13 @@ impl TreeStore {
     fn reclaim(&mut self, count: u64) -> Answer
         ensures steps { Steps self.old (Event.Reclaim count) result self.new }
     {
+        // The number of the last commit says that records are listed in order: before some are freed, and
+        // after.
+        let _before = self.books.records.latest();
         let nodes = reclaim(&mut self.books.pool, &self.books.versions, count);
         let left = count - nodes.freed;
         let records = self.books.records.reclaim(&self.books.versions, left);
+        let _after = self.books.records.latest();
         Answer::Reclaimed(nodes.freed + records.freed, nodes.left || records.left)
     }
 
@@ -136,10 +140,13 @@ impl TreeStore {
         if place >= self.seats.len() {
             return Answer::Refused(Refusal::BadSeat);
         }
-        // The count says of which records the numbers in use are, before the action and after it.
+        // The number of the last commit says that records are listed in order, and the count of which records
+        // the numbers in use are: before the action, and after it.
+        let _listed = self.books.records.latest();
         let _before = self.books.records.in_use();
         let held = &mut self.seats[place];
         let answer = actions::act(&mut self.books, held, number, self.alloc, action);
+        let _still = self.books.records.latest();
         let _after = self.books.records.in_use();
         answer
     }

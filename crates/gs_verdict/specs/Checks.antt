@@ -9,6 +9,8 @@ use Rattle.gs_names.specs.declared.targets.Goal.{Goal}
 use Rattle.gs_names.specs.declared.targets.Goal.TheVariants as goal
 use Rattle.gs_names.specs.declared.media.Media.{Media}
 use Rattle.gs_names.specs.declared.media.Media.TheVariants.{NTriples, Update}
+use Rattle.gs_names.specs.declared.media.ReplyType.{ReplyType}
+use Rattle.gs_names.specs.declared.media.ReplyType.TheVariants as type
 use Rattle.gs_names.specs.declared.media.BodyType.{BodyType}
 use Rattle.gs_names.specs.declared.media.BodyType.TheVariants.{Absent, Known, Refused}
 use Rattle.gs_verdict.specs.declared.methods.Method.{Method}
@@ -54,12 +56,12 @@ takes_type Patch b f = is_update_type b
 takes_type m b f = true
 
 -- a type was chosen
-abbrev pub is_chosen : Option Media → Bool
+abbrev pub is_chosen : Option ReplyType → Bool
 is_chosen None = false
-is_chosen (Some m) = true
+is_chosen (Some t) = true
 
 -- a reply with lines has a type that is accepted
-abbrev pub takes_reply : Method → Option Media → Bool
+abbrev pub takes_reply : Method → Option ReplyType → Bool
 takes_reply Get reply = is_chosen reply
 takes_reply Head reply = is_chosen reply
 takes_reply m reply = true
@@ -87,15 +89,15 @@ media_of_body Patch b = known_or_plain b
 media_of_body m b = NTriples
 
 -- the chosen type, or N-Triples
-abbrev pub chosen_or_plain : Option Media → Media
-chosen_or_plain None = NTriples
-chosen_or_plain (Some m) = m
+abbrev pub chosen_or_plain : Option ReplyType → ReplyType
+chosen_or_plain None = type.NTriples
+chosen_or_plain (Some t) = t
 
 -- the type of a reply with lines: N-Triples where it has none
-abbrev pub media_of_reply : Method → Option Media → Media
-media_of_reply Get reply = chosen_or_plain reply
-media_of_reply Head reply = chosen_or_plain reply
-media_of_reply m reply = NTriples
+abbrev pub type_of_reply : Method → Option ReplyType → ReplyType
+type_of_reply Get reply = chosen_or_plain reply
+type_of_reply Head reply = chosen_or_plain reply
+type_of_reply m reply = type.NTriples
 
 -- the graph, or none for the store itself
 abbrev pub graph_of_goal : Goal → Option Target

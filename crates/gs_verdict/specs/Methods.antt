@@ -19,7 +19,7 @@ method_of x =
     else if bytes_eq x (codes "PATCH") then Some Patch
     else None
 
--- the store itself is for POST alone, a graph for all six
+-- the store itself is read as a whole, and posted to for a new graph (section 5.5); a graph is for all six
 abbrev pub allow_of : Goal → Allow
 allow_of goal.Store = allow.OfStore
 allow_of other = allow.OfGraphs
@@ -27,10 +27,12 @@ allow_of other = allow.OfGraphs
 -- the target allows the method
 abbrev pub is_allowed : Allow → Method → Bool
 is_allowed allow.OfGraphs m = true
+is_allowed allow.OfStore Get = true
+is_allowed allow.OfStore Head = true
 is_allowed allow.OfStore Post = true
 is_allowed allow.OfStore m = false
 
 -- the value of the field Allow (RFC 9110, section 10.2.1)
 abbrev pub allow_text : Allow → List ℕ
 allow_text allow.OfGraphs = codes "GET, HEAD, PUT, POST, DELETE, PATCH"
-allow_text allow.OfStore = codes "POST"
+allow_text allow.OfStore = codes "GET, HEAD, POST"

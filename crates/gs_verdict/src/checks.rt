@@ -7,7 +7,7 @@ ghost use Rattle.gs_verdict.specs.Checks as spec;
 
 use crate::methods::Method;
 use gs_http::Framing;
-use gs_names::{BodyType, Goal, Media, body_type, reply_type};
+use gs_names::{BodyType, Goal, Media, ReplyType, body_type, reply_type};
 use gs_term::Target;
 use http_header::HeaderMap;
 
@@ -75,7 +75,7 @@ pub fn takes_type(kept: &HeaderMap<&[u8]>, method: Method, framing: Framing) -> 
     }
 }
 
-fn is_chosen(reply: Option<Media>) -> bool
+fn is_chosen(reply: Option<ReplyType>) -> bool
     ensures { result ≡ spec.is_chosen reply }
 {
     match reply {
@@ -85,12 +85,13 @@ fn is_chosen(reply: Option<Media>) -> bool
 }
 
 /// Whether the reply has a type that is accepted.
-pub fn takes_reply(kept: &HeaderMap<&[u8]>, method: Method) -> bool
-    ensures { result ≡ spec.takes_reply method (reply_type_of (kept_under kept.now (codes "accept"))) }
+pub fn takes_reply(kept: &HeaderMap<&[u8]>, goal: &Goal, method: Method) -> bool
+    ensures { result
+        ≡ spec.takes_reply method (reply_type_of goal.now (kept_under kept.now (codes "accept"))) }
 {
     match method {
-        Method::Get => is_chosen(reply_type(kept)),
-        Method::Head => is_chosen(reply_type(kept)),
+        Method::Get => is_chosen(reply_type(kept, goal)),
+        Method::Head => is_chosen(reply_type(kept, goal)),
         _ => true,
     }
 }
@@ -136,23 +137,24 @@ pub fn media_of_body(kept: &HeaderMap<&[u8]>, method: Method) -> Media
     }
 }
 
-fn chosen_or_plain(reply: Option<Media>) -> Media
+fn chosen_or_plain(reply: Option<ReplyType>) -> ReplyType
     ensures { result ≡ spec.chosen_or_plain reply }
 {
     match reply {
-        Some(media) => media,
-        None => Media::NTriples,
+        Some(chosen) => chosen,
+        None => ReplyType::NTriples,
     }
 }
 
 /// The type of the reply.
-pub fn media_of_reply(kept: &HeaderMap<&[u8]>, method: Method) -> Media
-    ensures { result ≡ spec.media_of_reply method (reply_type_of (kept_under kept.now (codes "accept"))) }
+pub fn type_of_reply(kept: &HeaderMap<&[u8]>, goal: &Goal, method: Method) -> ReplyType
+    ensures { result
+        ≡ spec.type_of_reply method (reply_type_of goal.now (kept_under kept.now (codes "accept"))) }
 {
     match method {
-        Method::Get => chosen_or_plain(reply_type(kept)),
-        Method::Head => chosen_or_plain(reply_type(kept)),
-        _ => Media::NTriples,
+        Method::Get => chosen_or_plain(reply_type(kept, goal)),
+        Method::Head => chosen_or_plain(reply_type(kept, goal)),
+        _ => ReplyType::NTriples,
     }
 }
 

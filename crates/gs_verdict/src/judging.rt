@@ -5,7 +5,7 @@ ghost use Rattle.gs_verdict.specs.Verdicts.{seen};
 
 use crate::checks::{
     graph_of_goal, is_malformed, is_malformed_goal, is_missing, is_over, is_unknown, media_of_body,
-    media_of_reply, takes_reply, takes_type,
+    takes_reply, takes_type, type_of_reply,
 };
 use crate::methods::{Allow, Method, read_method};
 use crate::verdicts::{Asked, Denial, Verdict};
@@ -59,11 +59,12 @@ fn awaits_continue(head: &Head<'_>) -> bool
 fn asked(head: &Head<'_>, goal: Goal, method: Method) -> Verdict
     ensures { result ≡ spec.asked (seen head.now) goal method }
 {
+    let reply = type_of_reply(&head.fields, &goal, method);
     Verdict::Ask(Asked {
         method,
         graph: graph_of_goal(goal),
         body: media_of_body(&head.fields, method),
-        reply: media_of_reply(&head.fields, method),
+        reply,
         framing: body_framing(&head.fields),
         awaits_continue: awaits_continue(head),
         closes: closes(&head.fields),
@@ -78,7 +79,7 @@ fn judge_method(head: &Head<'_>, goal: Goal, method: Method) -> Verdict
         not_allowed(head, &goal)
     } else if !takes_type(&head.fields, method, framing) {
         denied(head, 415)
-    } else if !takes_reply(&head.fields, method) {
+    } else if !takes_reply(&head.fields, &goal, method) {
         denied(head, 406)
     } else if is_over(method, framing) {
         denied(head, 413)

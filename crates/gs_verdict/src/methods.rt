@@ -20,7 +20,7 @@ pub enum Method {
 pub enum Allow {
     /// All six.
     OfGraphs,
-    /// POST alone.
+    /// GET, HEAD and POST.
     OfStore,
 }
 
@@ -31,7 +31,7 @@ impl Allow {
     {
         match self {
             Allow::OfGraphs => "GET, HEAD, PUT, POST, DELETE, PATCH",
-            Allow::OfStore => "POST",
+            Allow::OfStore => "GET, HEAD, POST",
         }
     }
 
@@ -51,7 +51,7 @@ impl Allow {
     {
         match self {
             Allow::OfGraphs => true,
-            Allow::OfStore => matches!(method, Method::Post),
+            Allow::OfStore => matches!(method, Method::Get | Method::Head | Method::Post),
         }
     }
 }

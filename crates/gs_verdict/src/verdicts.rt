@@ -1,7 +1,7 @@
 //! What a head asks for, or how it is denied.
 use crate::methods::{Allow, Method};
 use gs_http::Framing;
-use gs_names::Media;
+use gs_names::{Media, ReplyType};
 use gs_term::Target;
 
 /// The reply to a head that is not served.
@@ -23,7 +23,7 @@ pub struct Asked {
     /// The type of the body; N-Triples where none is given.
     pub body: Media,
     /// The type of the reply's lines; N-Triples where it has none.
-    pub reply: Media,
+    pub reply: ReplyType,
     pub framing: Framing,
     /// The client waits for `100 Continue` before it sends the body.
     pub awaits_continue: bool,

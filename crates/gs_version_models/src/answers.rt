@@ -1,5 +1,6 @@
 //! Answers and what the model says of them, in words and compared.
 use crate::outcomes::Said;
+use crate::sections::quads_of;
 use crate::sets::Set;
 use gs_drawn_events::{TRIPLES, made_name, push_line};
 use gs_event::Answer;
@@ -35,6 +36,10 @@ pub fn said_words(alloc: Global, said: &Said) -> Result<String, AllocError> {
         Said::Pinned(status) => format!(in alloc; "pinned {status}"),
         Said::Lines(triples, is_end) => {
             lines_words(alloc, lines_of(alloc, *triples)?.as_slice(), *is_end)
+        }
+        Said::Quads(sections, is_end) => {
+            let lines = quads_of(alloc, sections.as_slice())?;
+            lines_words(alloc, lines.as_slice(), *is_end)
         }
         Said::Cancelled => String::from_str(alloc, "cancelled"),
         Said::Refused(refusal) => {
@@ -115,6 +120,10 @@ pub fn is_said(alloc: Global, answer: &Answer, said: &Said) -> Result<bool, Allo
         (Answer::Pinned(a), Said::Pinned(b)) => Ok(a == b),
         (Answer::Lines(lines, is_end), Said::Lines(triples, ends)) => {
             let wanted = lines_of(alloc, *triples)?;
+            Ok(is_end == ends && lines.as_slice() == wanted.as_slice())
+        }
+        (Answer::Lines(lines, is_end), Said::Quads(sections, ends)) => {
+            let wanted = quads_of(alloc, sections.as_slice())?;
             Ok(is_end == ends && lines.as_slice() == wanted.as_slice())
         }
         (Answer::Cancelled, Said::Cancelled) => Ok(true),

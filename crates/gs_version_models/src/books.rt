@@ -4,15 +4,17 @@ use crate::graphs::Graphs;
 use crate::outcomes::{Outcome, Said};
 use crate::phases::{Phase, Read, Turn, Upload};
 use crate::rules::Lie;
+use crate::sections::Cut;
 use crate::sets::Set;
 use crate::versions::{Pins, Versions};
-use gs_drawn_events::{Edit, Kind, Place};
+use gs_drawn_events::{Edit, Kind, Place, Scope};
 use gs_event::Limits;
 use std::alloc::{AllocError, Global};
 
 /// Graphs, versions that ended, and numbers of requests and commits.
 #[derive(Drop)]
 pub struct Books {
+    alloc: Global,
     lie: Lie,
     most: Limits,
     request: u64,
@@ -25,11 +27,12 @@ impl Books {
     /// Those of a store without graphs.
     pub fn new(alloc: Global, most: Limits, lie: Lie) -> Books {
         Books {
+            alloc,
             lie,
             most,
             request: 0,
             commit: 0,
-            graphs: Graphs::new(alloc),
+            graphs: Graphs::new(alloc, lie == Lie::BareNames),
             versions: Versions::new(alloc),
         }
     }
@@ -72,18 +75,46 @@ impl Books {
         self.request
     }
 
+    /// Whether there is such a graph. All graphs together are always there.
+    fn is_there(&self, scope: Scope) -> bool {
+        match scope {
+            Scope::One(place) => self.graphs.triples(place).is_some(),
+            Scope::All => true,
+        }
+    }
+
+    /// A question is asked.
+    pub fn head(&self, scope: Scope) -> Turn {
+        let status = if self.is_there(scope) { 200 } else { 404 };
+        Turn::to(Phase::Idle, Said::Status(status))
+    }
+
     /// A read begins.
-    pub fn pin(&self, place: Place) -> Turn {
-        let Some(triples) = self.graphs.triples(place) else {
+    pub fn pin(&self, scope: Scope) -> Turn {
+        if !self.is_there(scope) {
             return Turn::to(Phase::Idle, Said::Pinned(404));
-        };
+        }
         let read = Read {
-            place,
-            triples,
+            scope,
             given: 0,
             pin: self.commit,
         };
         Turn::to(Phase::Reading(read), Said::Pinned(200))
+    }
+
+    /// Whether a read needs the versions at its pin.
+    pub fn needs_versions(&self, read: &Read) -> bool {
+        self.lie != Lie::AllNeedNothing || !matches!(read.scope, Scope::All)
+    }
+
+    /// Whether what a read is about is otherwise now than at its pin.
+    pub fn is_stale(&self, read: &Read) -> bool {
+        match read.scope {
+            Scope::One(place) => {
+                self.graphs.triples(place) != self.graphs.triples_at(place, read.pin)
+            }
+            Scope::All => !self.graphs.are_as_at(read.pin),
+        }
     }
 
     /// A graph is taken away.
@@ -228,18 +259,48 @@ impl Books {
     }
 
     /// A read is given so many lines.
-    pub fn piece(&self, read: Read, count: u64) -> Turn {
-        let triples = if self.lie == Lie::ReadsMoveOn {
-            self.graphs.triples(read.place).unwrap_or(read.triples)
+    pub fn piece(&self, read: Read, count: u64) -> Result<Turn, AllocError> {
+        match read.scope {
+            Scope::One(place) => Ok(self.piece_of_one(read, place, count)),
+            Scope::All => self.piece_of_all(read, count),
+        }
+    }
+
+    /// The same of one graph.
+    fn piece_of_one(&self, read: Read, place: Place, count: u64) -> Turn {
+        let pinned = self.graphs.triples_at(place, read.pin);
+        let triples = pinned.unwrap_or(Set::none());
+        let told = if self.lie == Lie::ReadsMoveOn {
+            self.graphs.triples(place).unwrap_or(triples)
         } else {
-            read.triples
+            triples
         };
-        let left = triples.after(read.given);
-        if left.count() <= count {
-            return Turn::to(Phase::Idle, Said::Lines(left, true));
+        let left = told.after(read.given);
+        let is_end = left.count() <= count;
+        let said = Said::Lines(left.first(count), is_end);
+        Turn::to(Books::reading_on(read, count, is_end), said)
+    }
+
+    /// The same of all graphs.
+    fn piece_of_all(&self, read: Read, count: u64) -> Result<Turn, AllocError> {
+        let commit = if self.lie == Lie::ReadsMoveOn {
+            self.commit
+        } else {
+            read.pin
+        };
+        let sections = self.graphs.sections_at(commit)?;
+        let Cut { sections, is_end } = Cut::of(self.alloc, sections.as_slice(), read.given, count)?;
+        let phase = Books::reading_on(read, count, is_end);
+        Ok(Turn::to(phase, Said::Quads(sections, is_end)))
+    }
+
+    /// What a seat does once its read was given so many lines more, which may be the last.
+    fn reading_on(read: Read, count: u64, is_end: bool) -> Phase {
+        if is_end {
+            return Phase::Idle;
         }
         let mut more = read;
         more.given = read.given.saturating_add(count);
-        Turn::to(Phase::Reading(more), Said::Lines(left.first(count), false))
+        Phase::Reading(more)
     }
 }

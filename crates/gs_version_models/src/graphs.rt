@@ -1,4 +1,6 @@
-//! The graphs of the model.
+//! The graphs of the model, as they are and as they were.
+use crate::names::Names;
+use crate::sections::Section;
 use crate::sets::Set;
 use gs_drawn_events::Place;
 use std::alloc::{AllocError, Global};
@@ -12,37 +14,8 @@ pub struct Graph {
 }
 
 impl Graph {
-    /// Whether a store keeps a record of it: none of a graph that was taken away, nor of an empty default
-    /// graph.
-    pub fn has_record(&self) -> bool {
-        match self.triples {
-            None => false,
-            Some(triples) => self.place != Place::Default || triples.count() > 0,
-        }
-    }
-}
-
-/// All graphs that there were.
-#[derive(Drop)]
-pub struct Graphs {
-    list: Vec<Graph>,
-}
-
-impl Graphs {
-    /// None but the default graph.
-    pub fn new(alloc: Global) -> Graphs {
-        Graphs {
-            list: Vec::new(alloc),
-        }
-    }
-
-    /// A graph as it is. The default graph is always there.
-    pub fn get(&self, place: Place) -> Graph {
-        for graph in &self.list {
-            if graph.place == place {
-                return *graph;
-            }
-        }
+    /// A graph before its first commit. The default graph is always there.
+    fn at_first(place: Place) -> Graph {
         Graph {
             place,
             triples: match place {
@@ -53,9 +26,92 @@ impl Graphs {
         }
     }
 
+    /// Whether a store keeps a record of it: none of a graph that was taken away, nor of an empty default
+    /// graph.
+    pub fn has_record(&self) -> bool {
+        match self.triples {
+            None => false,
+            Some(triples) => self.place != Place::Default || triples.count() > 0,
+        }
+    }
+}
+
+/// What a graph was until a commit.
+#[derive(Clone, Copy, Drop)]
+struct Past {
+    graph: Graph,
+    death: u64,
+}
+
+/// All graphs that there were.
+#[derive(Drop)]
+pub struct Graphs {
+    alloc: Global,
+    list: Vec<Graph>,
+    past: Vec<Past>,
+    names: Names,
+}
+
+impl Graphs {
+    /// None but the default graph. Names stand in order with their brackets, or wrongly without the last.
+    pub fn new(alloc: Global, are_names_bare: bool) -> Graphs {
+        Graphs {
+            alloc,
+            list: Vec::new(alloc),
+            past: Vec::new(alloc),
+            names: Names::new(alloc, are_names_bare),
+        }
+    }
+
+    /// A graph as it is.
+    pub fn get(&self, place: Place) -> Graph {
+        for graph in &self.list {
+            if graph.place == place {
+                return *graph;
+            }
+        }
+        Graph::at_first(place)
+    }
+
     /// The triples of a graph, if there is such a graph.
     pub fn triples(&self, place: Place) -> Option<Set> {
         self.get(place).triples
+    }
+
+    /// The triples that a graph had after this commit, if there was such a graph.
+    pub fn triples_at(&self, place: Place, commit: u64) -> Option<Set> {
+        let newest = self.get(place);
+        if newest.birth <= commit {
+            return newest.triples;
+        }
+        for past in &self.past {
+            let graph = past.graph;
+            if graph.place == place && graph.birth <= commit && commit < past.death {
+                return graph.triples;
+            }
+        }
+        Graph::at_first(place).triples
+    }
+
+    /// Whether all graphs are as they were after this commit.
+    pub fn are_as_at(&self, commit: u64) -> bool {
+        for graph in &self.list {
+            if self.triples_at(graph.place, commit) != graph.triples {
+                return false;
+            }
+        }
+        true
+    }
+
+    /// All graphs as they were after this commit: the default graph, and those with names in the order of these.
+    pub fn sections_at(&self, commit: u64) -> Result<Vec<Section>, AllocError> {
+        let mut sections = Vec::new(self.alloc);
+        for place in self.names.in_order(self.alloc)? {
+            if let Some(triples) = self.triples_at(place, commit) {
+                sections.push(Section { place, triples })?;
+            }
+        }
+        Ok(sections)
     }
 
     /// Gives a graph these triples, or takes it away, by this commit.
@@ -72,11 +128,20 @@ impl Graphs {
         };
         for graph in &mut self.list {
             if graph.place == place {
+                let graph_before = *graph;
                 *graph = new;
-                return Ok(());
+                return self.keep(graph_before, birth);
             }
         }
+        self.names.add(self.alloc, place)?;
         self.list.push(new).map_err(AllocError::from)
+    }
+
+    /// A graph was so until this commit.
+    fn keep(&mut self, graph: Graph, death: u64) -> Result<(), AllocError> {
+        self.past
+            .push(Past { graph, death })
+            .map_err(AllocError::from)
     }
 
     /// How many triples all graphs have.

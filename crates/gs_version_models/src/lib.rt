@@ -7,9 +7,11 @@ mod books;
 mod finds;
 mod graphs;
 mod models;
+mod names;
 mod outcomes;
 mod phases;
 mod rules;
+mod sections;
 mod sets;
 mod versions;
 

@@ -58,7 +58,9 @@ impl Model {
     pub fn pins(&self) -> Pins {
         let mut pins = [None; SEATS];
         for (pin, phase) in pins.iter_mut().zip(self.phases.iter()) {
-            if let Phase::Reading(read) = phase {
+            if let Phase::Reading(read) = phase
+                && self.books.needs_versions(read)
+            {
                 *pin = Some(read.pin);
             }
         }
@@ -72,10 +74,10 @@ impl Model {
             .any(|phase| matches!(phase, Phase::Reading(_)))
     }
 
-    /// Whether a seat's read has other lines than its graph has now.
+    /// Whether a seat's read has other lines than its graph has now, or than all have.
     pub fn is_stale(&self, seat: u16) -> bool {
         match self.phase(seat) {
-            Phase::Reading(read) => self.books.graphs.triples(read.place) != Some(read.triples),
+            Phase::Reading(read) => self.books.is_stale(&read),
             _ => false,
         }
     }
@@ -97,12 +99,13 @@ impl Model {
             Phase::Idle => self.begin(ask)?,
             Phase::Writing(upload) => self.write(upload, ask)?,
             Phase::Patching(target) => self.patch(target, ask)?,
-            Phase::Reading(read) => self.read(read, ask),
+            Phase::Reading(read) => self.read(read, ask)?,
         };
+        let Turn { phase, outcome } = turn;
         if let Some(held) = self.phases.get_mut(place) {
-            *held = turn.phase;
+            *held = phase;
         }
-        Ok(turn.outcome)
+        Ok(outcome)
     }
 
     /// An idle seat.
@@ -122,12 +125,8 @@ impl Model {
                 Ok(Turn::opened(Phase::Patching(*place), request))
             }
             Ask::Delete(place) => self.books.delete(*place),
-            Ask::Head(place) => {
-                let is_there = self.books.graphs.triples(*place).is_some();
-                let status = if is_there { 200 } else { 404 };
-                Ok(Turn::to(Phase::Idle, Said::Status(status)))
-            }
-            Ask::Pin(place) => Ok(self.books.pin(*place)),
+            Ask::Head(scope) => Ok(self.books.head(*scope)),
+            Ask::Pin(scope) => Ok(self.books.pin(*scope)),
             _ => Ok(Turn::refused(Phase::Idle)),
         }
     }
@@ -152,12 +151,12 @@ impl Model {
     }
 
     /// A seat with a read.
-    fn read(&self, read: Read, ask: &Ask) -> Turn {
+    fn read(&self, read: Read, ask: &Ask) -> Result<Turn, AllocError> {
         match ask {
-            Ask::Piece(0) => Turn::refused(Phase::Reading(read)),
+            Ask::Piece(0) => Ok(Turn::refused(Phase::Reading(read))),
             Ask::Piece(count) => self.books.piece(read, u64::from(*count)),
-            Ask::Cancel => Turn::to(Phase::Idle, Said::Cancelled),
-            _ => Turn::refused(Phase::Reading(read)),
+            Ask::Cancel => Ok(Turn::to(Phase::Idle, Said::Cancelled)),
+            _ => Ok(Turn::refused(Phase::Reading(read))),
         }
     }
 }

@@ -1,5 +1,6 @@
 //! What the model says of an event: the answer, how many more or fewer nodes and records are in use then, and
 //! how many become waste that no version reached.
+use crate::sections::Section;
 use crate::sets::Set;
 use gs_model::Refusal;
 
@@ -10,7 +11,7 @@ pub const MOST_FOR_TRIPLE: u64 = 260;
 pub const MOST_FOR_NEW: u64 = 257;
 
 /// An answer, as the model has it.
-#[derive(Clone, Copy, Drop)]
+#[derive(Drop)]
 pub enum Said {
     Opened(u64),
     Staged,
@@ -20,6 +21,8 @@ pub enum Said {
     Pinned(u16),
     /// The lines of these triples, and whether none are left after them.
     Lines(Set, bool),
+    /// The lines of these sections, and the same.
+    Quads(Vec<Section>, bool),
     Cancelled,
     Refused(Refusal),
 }
@@ -35,7 +38,7 @@ pub enum Growth {
 }
 
 /// What is said of an event.
-#[derive(Clone, Copy, Drop)]
+#[derive(Drop)]
 pub struct Outcome {
     pub said: Said,
     pub growth: Growth,

@@ -1,7 +1,7 @@
 //! What the seats of the model do.
 use crate::outcomes::{Outcome, Said};
 use crate::sets::Set;
-use gs_drawn_events::{Kind, Place};
+use gs_drawn_events::{Kind, Place, Scope};
 use gs_model::Refusal;
 
 /// An upload.
@@ -15,8 +15,7 @@ pub struct Upload {
 /// A read.
 #[derive(Clone, Copy, Drop)]
 pub struct Read {
-    pub place: Place,
-    pub triples: Set,
+    pub scope: Scope,
     /// How many lines were given.
     pub given: u64,
     /// The commit number at its pin.
@@ -45,7 +44,7 @@ impl Phase {
 }
 
 /// What becomes of a seat, and what is said.
-#[derive(Clone, Copy, Drop)]
+#[derive(Drop)]
 pub struct Turn {
     pub phase: Phase,
     pub outcome: Outcome,

@@ -8,7 +8,7 @@ pub enum Lie {
     NewestPinAlone,
     /// The tree and the record that a PUT replaces are never wasted.
     PutLosesTree,
-    /// A read has the lines of its graph as it is now.
+    /// A read has the lines of its graph, or of all, as they are now.
     ReadsMoveOn,
     /// A triple that comes again in a list takes a node of its own.
     RepeatsTakeNodes,
@@ -16,6 +16,10 @@ pub enum Lie {
     EndsLate,
     /// A version does not have its nodes and its record at its own commit.
     BeginsLate,
+    /// A read of all graphs needs no version.
+    AllNeedNothing,
+    /// Names stand in order without their closing brackets.
+    BareNames,
 }
 
 impl Lie {
@@ -29,6 +33,8 @@ impl Lie {
             Lie::RepeatsTakeNodes => "a repeat takes a node",
             Lie::EndsLate => "a version ends after its last commit",
             Lie::BeginsLate => "a version begins after its first commit",
+            Lie::AllNeedNothing => "a read of all graphs needs no version",
+            Lie::BareNames => "names are in order without brackets",
         }
     }
 }

@@ -43,13 +43,13 @@ piece_phase false read = refl
 then_phase : (before : History) (p : Phase OpenRead) (action : Action) (a : Answer) → seat_phase (later before p action a) ≡ phase_then (seat_phase p) (action, a)
 then_phase before Idle (Open k) (Opened r) = refl
 then_phase before Idle (OpenPatch t) (Opened r) = refl
-then_phase before Idle (Pin t) (Pinned s) = pin_phase (nat_eq s 200) record { target = t; before = before; given = 0 }
+then_phase before Idle (Pin c) (Pinned s) = pin_phase (nat_eq s 200) record { scope = c; before = before; given = 0 }
 then_phase before (Writing k r g) (Stage ts) Staged = refl
 then_phase before (Writing k r g) Commit (Status s name) = refl
 then_phase before (Writing k r g) Cancel Cancelled = refl
 then_phase before (Patching t r) (CommitPatch ops) (Status s name) = refl
 then_phase before (Patching t r) Cancel Cancelled = refl
-then_phase before (Reading read) (Piece n) (Lines b end) = piece_phase end record { target = read.target; before = read.before; given = read.given + n }
+then_phase before (Reading read) (Piece n) (Lines b end) = piece_phase end record { scope = read.scope; before = read.before; given = read.given + n }
 then_phase before (Reading read) Cancel Cancelled = refl
 then_phase before p action a = refl
 
@@ -71,8 +71,8 @@ history_phase seat (x ∷ before) =
 -- it asks the same
 same_operation : (p : Phase OpenRead) (action : Action) (a : Answer) → operation_of (seat_phase p) action a ≡ operation_of p action a
 same_operation Idle (Delete t) (Status s name) = refl
-same_operation Idle (Head t) (Status s name) = refl
-same_operation Idle (Pin t) (Pinned s) = refl
+same_operation Idle (Head c) (Status s name) = refl
+same_operation Idle (Pin c) (Pinned s) = refl
 same_operation (Writing k r g) Commit (Status s name) = refl
 same_operation (Patching t r) (CommitPatch ops) (Status s name) = refl
 same_operation p action a = refl
@@ -163,8 +163,8 @@ all_points seat (x ∷ before) =
 
 refused_asks : (p : SeatPhase) (action : Action) (why : Refusal) → operation_of p action (Refused why) ≡ None
 refused_asks Idle (Delete t) why = refl
-refused_asks Idle (Head t) why = refl
-refused_asks Idle (Pin t) why = refl
+refused_asks Idle (Head c) why = refl
+refused_asks Idle (Pin c) why = refl
 refused_asks (Writing k r g) Commit why = refl
 refused_asks (Patching t r) (CommitPatch ops) why = refl
 refused_asks p action why = refl

@@ -70,8 +70,8 @@ asked_own base a body (Uploads k) q m =
     (write_own k q.0 m.0 (All-same (HasOwn q.0) m.0 _ m.1.1 (documents_own (document_language a.body) (text_base base a.graph) q.0 body)))
 asked_own base a body (Patches t) q m = subst (λ (o : Operation). BringsOwn q.0 o) (sym m.2) (update_own (text_base base a.graph) q.0 body m.0 m.1)
 asked_own base a body (Deletes t) q m = subst (λ (o : Operation). BringsOwn q.0 o) (sym m) tt
-asked_own base a body (Looks t) q m = subst (λ (o : Operation). BringsOwn q.0 o) (sym m) tt
-asked_own base a body (Reads t) q m = subst (λ (o : Operation). BringsOwn q.0 o) (sym m) tt
+asked_own base a body (Looks c) q m = subst (λ (o : Operation). BringsOwn q.0 o) (sym m) tt
+asked_own base a body (Reads c) q m = subst (λ (o : Operation). BringsOwn q.0 o) (sym m) tt
 asked_own base a body NoPlan q m = absurd m
 
 -- so is each of what any request asks

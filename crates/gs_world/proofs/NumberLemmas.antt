@@ -93,8 +93,8 @@ deed_goes : (p : SeatPhase) (action : Action) (a : Answer) → Goes (open_in p) 
 deed_goes Idle (Open k) (Opened r) = inr (inr (r, refl, refl, refl))
 deed_goes Idle (OpenPatch t) (Opened r) = inr (inr (r, refl, refl, refl))
 deed_goes Idle (Delete t) (Status s name) = inl refl
-deed_goes Idle (Head t) (Status s name) = inl refl
-deed_goes Idle (Pin t) (Pinned s) = inl (read_opens (nat_eq s 200))
+deed_goes Idle (Head c) (Status s name) = inl refl
+deed_goes Idle (Pin c) (Pinned s) = inl (read_opens (nat_eq s 200))
 deed_goes (Writing k r g) (Stage ts) Staged = inl refl
 deed_goes (Writing k r g) Commit (Status s name) = inl (write_brings k r g)
 deed_goes (Writing k r g) Cancel Cancelled = inr (inl refl)
@@ -111,8 +111,8 @@ opened_seat : (w : Totals) (v : SeatView) (action : Action) (r : ℕ) → FitsSe
 opened_seat w Idle (Open k) r f = f.1
 opened_seat w Idle (OpenPatch t) r f = f.1
 opened_seat w Idle (Delete t) r f = absurd f
-opened_seat w Idle (Head t) r f = absurd f
-opened_seat w Idle (Pin t) r f = absurd f
+opened_seat w Idle (Head c) r f = absurd f
+opened_seat w Idle (Pin c) r f = absurd f
 opened_seat w (Writing k n g) (Stage ts) r f = absurd f
 opened_seat w (Writing k n g) Commit r f = absurd f
 opened_seat w (Writing k n g) Cancel r f = absurd f

@@ -62,8 +62,8 @@ brought_own r (Posts t g) h = triples_own r (triples_of g) h
 brought_own r (Creates n g) h = triples_own r (triples_of g) h
 brought_own r (Patches t ops) h = each_own (SaysOwn r) op_terms r (op_own r) ops h
 brought_own r (Deletes t) h = none_own r
-brought_own r (Looks t) h = none_own r
-brought_own r (Reads t) h = none_own r
+brought_own r (Looks c) h = none_own r
+brought_own r (Reads c) h = none_own r
 
 -- what brings a term brings something
 none_there : (n : Term) → Contains [] n → ⊥
@@ -75,8 +75,8 @@ brings_some (Posts t g) n k = refl
 brings_some (Creates m g) n k = refl
 brings_some (Patches t ops) n k = refl
 brings_some (Deletes t) n k = absurd (none_there n k)
-brings_some (Looks t) n k = absurd (none_there n k)
-brings_some (Reads t) n k = absurd (none_there n k)
+brings_some (Looks c) n k = absurd (none_there n k)
+brings_some (Reads c) n k = absurd (none_there n k)
 
 -- numbers at places
 

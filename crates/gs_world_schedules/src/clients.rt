@@ -211,8 +211,8 @@ impl Client {
     }
 }
 
-/// A GET writes at once, in the turn after its last piece, the lines that its graph had at the first
-/// turn.
+/// A GET writes at once, in the turn after its last piece, the lines that its graph, or all graphs, had at
+/// the first turn.
 fn due_read(
     rules: &Rules,
     request: &Request,
@@ -221,12 +221,12 @@ fn due_read(
     turns: usize,
     now: &Dataset,
 ) -> Result<Due, AllocError> {
-    let pinned = first.before.graph(request.graph);
+    let pinned = first.before.shown(request);
     if turns < read_turns(rules, pinned) {
         return Ok(Due::Nothing);
     }
     let shown = match rules.lie {
-        Lie::ReadsMoveOn => last.after.graph(request.graph),
+        Lie::ReadsMoveOn => last.after.shown(request),
         _ => pinned,
     };
     let mut text = Vec::new(rules.alloc);
@@ -235,15 +235,15 @@ fn due_read(
         status: read_status(shown),
         text,
         spans_write: first.before != *now,
-        is_stale: pinned != now.graph(request.graph),
+        is_stale: pinned != now.shown(request),
     }))
 }
 
 fn due_look(rules: &Rules, request: &Request, first: &Look) -> Result<Due, AllocError> {
-    let graph = first.before.graph(request.graph);
+    let shown = first.before.shown(request);
     let mut text = Vec::new(rules.alloc);
-    push_look(&mut text, graph, request.is_turtle, request.closes)?;
-    Ok(Due::Must(Reply::of(read_status(graph), text)))
+    push_look(&mut text, shown, request.is_turtle, request.closes)?;
+    Ok(Due::Must(Reply::of(read_status(shown), text)))
 }
 
 /// The reply to a write comes in the turn after the one that took effect. Where that changes nothing

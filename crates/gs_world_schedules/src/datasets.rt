@@ -8,6 +8,17 @@ pub struct Dataset {
     graphs: [Option<Triples>; GRAPHS],
 }
 
+/// What a GET or a HEAD shows.
+#[derive(Clone, Copy, Drop, PartialEq)]
+pub enum Shown {
+    /// There is no such graph.
+    Missing,
+    /// The triples of one graph.
+    One(Triples),
+    /// All graphs.
+    All(Dataset),
+}
+
 /// A graph after a write, and the status of the write.
 #[derive(Clone, Copy, Drop)]
 struct Outcome {
@@ -92,6 +103,33 @@ impl Dataset {
             Some(graph) => *graph,
             None => None,
         }
+    }
+
+    /// What a GET or a HEAD of one graph shows of them.
+    pub fn one(&self, number: usize) -> Shown {
+        match self.graph(number) {
+            Some(triples) => Shown::One(triples),
+            None => Shown::Missing,
+        }
+    }
+
+    /// What this GET or HEAD shows of them.
+    pub fn shown(&self, request: &Request) -> Shown {
+        if request.is_of_all {
+            Shown::All(*self)
+        } else {
+            self.one(request.graph)
+        }
+    }
+
+    /// How many triples all graphs have.
+    pub fn count(&self) -> usize {
+        let mut count = 0usize;
+        for graph in &self.graphs {
+            let triples = graph.unwrap_or(Triples::none());
+            count = count.saturating_add(triples.count());
+        }
+        count
     }
 
     /// What a request's write makes of these graphs.

@@ -9,7 +9,7 @@ pub struct Reply {
     pub text: Vec<u8>,
     /// It is a read, and since its pin another connection has changed a graph.
     pub spans_write: bool,
-    /// That graph was the one that it reads.
+    /// That graph was the one that it reads, or it reads all.
     pub is_stale: bool,
 }
 

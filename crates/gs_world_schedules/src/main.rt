@@ -25,13 +25,14 @@ use std::io::{self, Write};
 const SCHEDULES: u64 = 500;
 
 /// How many of them are played again by a model that is wrong on purpose.
-const WRONG_SCHEDULES: u64 = 10;
+const WRONG_SCHEDULES: u64 = 20;
 
-const LIES: [Lie; 5] = [
+const LIES: [Lie; 6] = [
     Lie::PostReplaces,
     Lie::ReadsMoveOn,
     Lie::DroppedUploadsCount,
     Lie::FaultsRemove,
+    Lie::LinesHaveNoName,
     Lie::NeighboursAnswer,
 ];
 

@@ -1,10 +1,21 @@
 //! The texts of replies (RFC 9110, RFC 9112), for the model.
-use crate::rules::Rules;
-use gs_drawn_requests::{POOL, Triples};
-use std::alloc::AllocError;
+use crate::datasets::{Dataset, Shown};
+use crate::rules::{Lie, Rules};
+use gs_drawn_requests::{DEFAULT, GRAPHS, POOL, Triples};
+use std::alloc::{AllocError, Global};
 use std::io::Write;
 
 pub const CONTINUE: &[u8] = b"HTTP/1.1 100 Continue\r\n\r\n";
+
+/// All graphs by their numbers, in the order of their names, with what stands before the dot of a line:
+/// the default graph, and then `<http://e/b>`, which comes before `<http://e/c#d>`, and that before
+/// `<http://localhost/graphs/a>`.
+const IN_ORDER: [(usize, &str); GRAPHS] = [
+    (DEFAULT, ""),
+    (2, "<http://e/b> "),
+    (3, "<http://e/c#d> "),
+    (1, "<http://localhost/graphs/a> "),
+];
 
 fn phrase(status: u16) -> &'static str {
     match status {
@@ -46,16 +57,60 @@ pub fn push_reply(
     push_end(text, closes)
 }
 
-/// Adds the head of a reply with lines, which is all of a HEAD's.
-fn push_found(text: &mut Vec<u8>, is_turtle: bool, closes: bool) -> Result<(), AllocError> {
-    text.extend_from_slice(b"HTTP/1.1 200 OK\r\nContent-Type: ")?;
-    if is_turtle {
-        text.extend_from_slice(b"text/turtle\r\n")?;
-    } else {
-        text.extend_from_slice(b"application/n-triples\r\n")?;
+/// What the lines of a reply are.
+fn type_of(shown: Shown, is_turtle: bool) -> &'static str {
+    match shown {
+        Shown::All(_) => "application/n-quads",
+        _ if is_turtle => "text/turtle",
+        _ => "application/n-triples",
     }
-    text.extend_from_slice(b"Transfer-Encoding: chunked\r\n")?;
-    push_end(text, closes)
+}
+
+/// Adds the lines of a graph. Before the dot of each comes this name, in brackets and with a space, or
+/// nothing.
+fn push_graph(
+    lines: &mut Vec<Vec<u8>>,
+    alloc: Global,
+    triples: Triples,
+    name: &str,
+) -> Result<(), AllocError> {
+    for entry in &POOL {
+        if !triples.has(entry) {
+            continue;
+        }
+        let (_, line, _) = entry;
+        let mut bytes = Vec::new(alloc);
+        let front = line.strip_suffix(".").unwrap_or(line);
+        bytes.extend_from_slice(front.as_bytes())?;
+        bytes.extend_from_slice(name.as_bytes())?;
+        bytes.extend_from_slice(b".\n")?;
+        lines.push(bytes)?;
+    }
+    Ok(())
+}
+
+/// Adds the lines of all graphs.
+fn push_all(lines: &mut Vec<Vec<u8>>, rules: &Rules, dataset: &Dataset) -> Result<(), AllocError> {
+    for (number, name) in &IN_ORDER {
+        let triples = dataset.graph(*number).unwrap_or(Triples::none());
+        let said = match rules.lie {
+            Lie::LinesHaveNoName => "",
+            _ => *name,
+        };
+        push_graph(lines, rules.alloc, triples, said)?;
+    }
+    Ok(())
+}
+
+/// The lines that a GET shows, in their order.
+fn lines_of(rules: &Rules, shown: Shown) -> Result<Vec<Vec<u8>>, AllocError> {
+    let mut lines = Vec::new(rules.alloc);
+    match shown {
+        Shown::Missing => {}
+        Shown::One(triples) => push_graph(&mut lines, rules.alloc, triples, "")?,
+        Shown::All(dataset) => push_all(&mut lines, rules, &dataset)?,
+    }
+    Ok(lines)
 }
 
 /// Adds these lines as a chunk, if there are some.
@@ -69,70 +124,69 @@ fn push_chunk(text: &mut Vec<u8>, lines: &[u8]) -> Result<(), AllocError> {
 }
 
 /// Adds a chunk for each piece, and the last one.
-fn push_lines(text: &mut Vec<u8>, rules: &Rules, triples: Triples) -> Result<(), AllocError> {
-    let mut lines = Vec::new(rules.alloc);
+fn push_lines(text: &mut Vec<u8>, rules: &Rules, lines: &[Vec<u8>]) -> Result<(), AllocError> {
+    let mut chunk = Vec::new(rules.alloc);
     let mut count = 0u32;
-    for entry in &POOL {
-        if !triples.has(entry) {
-            continue;
-        }
-        let (_, line, _) = entry;
-        lines.extend_from_slice(line.as_bytes())?;
-        lines.push(b'\n')?;
+    for line in lines {
+        chunk.extend_from_slice(line.as_slice())?;
         count = count.saturating_add(1);
         if count == rules.piece {
-            push_chunk(text, lines.as_slice())?;
-            lines.clear();
+            push_chunk(text, chunk.as_slice())?;
+            chunk.clear();
             count = 0;
         }
     }
-    push_chunk(text, lines.as_slice())?;
+    push_chunk(text, chunk.as_slice())?;
     text.extend_from_slice(b"0\r\n\r\n")
 }
 
-/// Adds the reply to a HEAD of a graph.
+/// Adds the reply to a HEAD: the head of a reply with lines, where something is there.
 pub fn push_look(
     text: &mut Vec<u8>,
-    graph: Option<Triples>,
+    shown: Shown,
     is_turtle: bool,
     closes: bool,
 ) -> Result<(), AllocError> {
-    match graph {
-        None => push_reply(text, 404, "", closes),
-        Some(_) => push_found(text, is_turtle, closes),
+    if shown == Shown::Missing {
+        return push_reply(text, 404, "", closes);
     }
+    let media = type_of(shown, is_turtle);
+    write!(text, "HTTP/1.1 200 OK\r\nContent-Type: {media}\r\n").map_err(|_| AllocError)?;
+    text.extend_from_slice(b"Transfer-Encoding: chunked\r\n")?;
+    push_end(text, closes)
 }
 
-/// Adds the reply to a GET of a graph.
+/// Adds the reply to a GET.
 pub fn push_read(
     text: &mut Vec<u8>,
     rules: &Rules,
-    graph: Option<Triples>,
+    shown: Shown,
     is_turtle: bool,
     closes: bool,
 ) -> Result<(), AllocError> {
-    push_look(text, graph, is_turtle, closes)?;
-    match graph {
-        None => Ok(()),
-        Some(triples) => push_lines(text, rules, triples),
+    push_look(text, shown, is_turtle, closes)?;
+    if shown == Shown::Missing {
+        return Ok(());
     }
+    let lines = lines_of(rules, shown)?;
+    push_lines(text, rules, lines.as_slice())
 }
 
-/// The status of a GET or HEAD of a graph.
-pub fn read_status(graph: Option<Triples>) -> u16 {
-    if graph.is_some() { 200 } else { 404 }
+/// The status of a GET or HEAD.
+pub fn read_status(shown: Shown) -> u16 {
+    if shown == Shown::Missing { 404 } else { 200 }
 }
 
 /// How many turns of a GET come before the one that writes: the one that pins, and one for each piece.
-/// An empty graph has one piece.
-pub fn read_turns(rules: &Rules, graph: Option<Triples>) -> usize {
+/// Where there is no line there is one piece.
+pub fn read_turns(rules: &Rules, shown: Shown) -> usize {
+    let count = match shown {
+        Shown::Missing => return 1,
+        Shown::One(triples) => triples.count(),
+        Shown::All(dataset) => dataset.count(),
+    };
     let piece = usize::try_from(rules.piece).unwrap_or_default();
-    match graph {
-        None => 1,
-        Some(triples) => {
-            let rounded = triples.count().saturating_add(piece.saturating_sub(1));
-            let pieces = rounded.checked_div(piece).unwrap_or_default();
-            pieces.max(1).saturating_add(1)
-        }
-    }
+    let rounded = count.saturating_add(piece.saturating_sub(1));
+    let pieces = rounded.checked_div(piece).unwrap_or_default();
+    pieces.max(1).saturating_add(1)
 }

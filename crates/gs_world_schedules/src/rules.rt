@@ -6,12 +6,14 @@ use std::alloc::Global;
 pub enum Lie {
     Nothing,
     PostReplaces,
-    /// A read has the lines of its graph at its end, and not at its pin.
+    /// A read has the lines of its end, and not of its pin.
     ReadsMoveOn,
     /// An upload whose connection is dropped counts as committed.
     DroppedUploadsCount,
     /// An upload with a fault counts as a DELETE of its graph.
     FaultsRemove,
+    /// A line has no name where all graphs are read.
+    LinesHaveNoName,
     /// What one connection writes is taken for what the next one writes.
     NeighboursAnswer,
 }
@@ -25,6 +27,7 @@ impl Lie {
             Lie::ReadsMoveOn => "a read shows the state at its end",
             Lie::DroppedUploadsCount => "an upload that is dropped counts",
             Lie::FaultsRemove => "an upload with a fault removes its graph",
+            Lie::LinesHaveNoName => "a read of all graphs names none",
             Lie::NeighboursAnswer => "a reply goes to the next connection",
         }
     }

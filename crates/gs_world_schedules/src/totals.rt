@@ -12,7 +12,7 @@ struct Tally {
     count: u64,
 }
 
-/// How many requests of each kind were answered.
+/// How many requests of each kind were answered, and how many of the reads and HEADs were of all graphs.
 #[derive(Clone, Copy, Drop)]
 struct Answered {
     get: u64,
@@ -22,6 +22,7 @@ struct Answered {
     delete: u64,
     patch: u64,
     denied: u64,
+    of_all: u64,
 }
 
 /// What happened once.
@@ -76,6 +77,19 @@ fn new_tally(status: u16) -> Tally {
     Tally { status, count: 0 }
 }
 
+fn no_answers() -> Answered {
+    Answered {
+        get: 0,
+        head: 0,
+        put: 0,
+        post: 0,
+        delete: 0,
+        patch: 0,
+        denied: 0,
+        of_all: 0,
+    }
+}
+
 impl Totals {
     /// Nothing was done.
     pub fn new() -> Totals {
@@ -89,15 +103,7 @@ impl Totals {
             absents: 0,
             last_turns: 0,
             changes: 0,
-            answered: Answered {
-                get: 0,
-                head: 0,
-                put: 0,
-                post: 0,
-                delete: 0,
-                patch: 0,
-                denied: 0,
-            },
+            answered: no_answers(),
             tallies: [
                 new_tally(100),
                 new_tally(200),
@@ -140,6 +146,9 @@ impl Totals {
         if matches!(request.deed, Deed::Denied(_, _)) {
             add_one(&mut self.answered.denied);
             return;
+        }
+        if request.is_of_all {
+            add_one(&mut self.answered.of_all);
         }
         match request.method {
             Method::Get => add_one(&mut self.answered.get),
@@ -204,8 +213,8 @@ impl Totals {
         let it = self.answered;
         writeln!(
             out,
-            "answered: GET {}, HEAD {}, PUT {}, POST {}, DELETE {}, PATCH {}, denied by the head {}",
-            it.get, it.head, it.put, it.post, it.delete, it.patch, it.denied,
+            "answered: GET {}, HEAD {}, PUT {}, POST {}, DELETE {}, PATCH {}, denied by the head {}, of all graphs {}",
+            it.get, it.head, it.put, it.post, it.delete, it.patch, it.denied, it.of_all,
         )?;
         write!(out, "statuses:")?;
         for tally in &self.tallies {
@@ -219,7 +228,7 @@ impl Totals {
         )?;
         writeln!(
             out,
-            "reads that spanned a change by another connection: {}, of them {} of the graph that is read",
+            "reads that spanned a change by another connection: {}, of them {} of what is read",
             self.spanning_reads, self.stale_reads,
         )
     }

@@ -1,17 +1,28 @@
-//! A connection that reads all graphs between the steps of the others.
-use crate::datasets::Dataset;
+//! A connection that reads each graph, and all together, between the steps of the others.
+use crate::datasets::{Dataset, Shown};
 use crate::replies::{push_read, read_turns};
 use crate::rules::Rules;
 use gs_core::Refusal;
-use gs_drawn_requests::GRAPHS;
 use gs_world::{World, WorldStep};
 use std::alloc::AllocError;
 
-/// Reads of all graphs.
+/// A read of each graph, and one of all.
 const READS: &[u8] = b"GET /store?default HTTP/1.1\r\nHost: w\r\n\r\n\
 GET /graphs/a HTTP/1.1\r\nHost: w\r\n\r\n\
 GET /store?graph=http://e/b HTTP/1.1\r\nHost: w\r\n\r\n\
-GET /store?graph=http://e/c%23d HTTP/1.1\r\nHost: w\r\n\r\n";
+GET /store?graph=http://e/c%23d HTTP/1.1\r\nHost: w\r\n\r\n\
+GET /store HTTP/1.1\r\nHost: w\r\n\r\n";
+
+/// What these reads show.
+fn shown_in(dataset: &Dataset) -> [Shown; 5] {
+    [
+        dataset.one(0),
+        dataset.one(1),
+        dataset.one(2),
+        dataset.one(3),
+        Shown::All(*dataset),
+    ]
+}
 
 /// The witness.
 #[derive(Drop)]
@@ -34,8 +45,8 @@ pub enum Sight {
 /// What the witness writes where the graphs are these.
 fn text_of(rules: &Rules, dataset: &Dataset) -> Result<Vec<u8>, AllocError> {
     let mut text = Vec::new(rules.alloc);
-    for number in 0..GRAPHS {
-        push_read(&mut text, rules, dataset.graph(number), false, false)?;
+    for shown in &shown_in(dataset) {
+        push_read(&mut text, rules, *shown, false, false)?;
     }
     Ok(text)
 }
@@ -43,8 +54,8 @@ fn text_of(rules: &Rules, dataset: &Dataset) -> Result<Vec<u8>, AllocError> {
 /// How many turns that takes.
 fn turns_of(rules: &Rules, dataset: &Dataset) -> usize {
     let mut turns = 0usize;
-    for number in 0..GRAPHS {
-        let made = read_turns(rules, dataset.graph(number));
+    for shown in &shown_in(dataset) {
+        let made = read_turns(rules, *shown);
         turns = turns.saturating_add(made).saturating_add(1);
     }
     turns

@@ -13,7 +13,7 @@ returns-clause-acts c =
       seat = search rules;
       pin = search rules;
       known = search rules;
-      rows = rw c.reserve.ensures.items (same_rows c.args.books.now.rows.items);
+      rows = rw c.reserve.ensures.items (same_rows c.args.books.now.commit c.args.books.now.rows.items);
       counted = search rules;
       staged = rw c.in-Idle.is (omega (arith, none));
     }

@@ -1,7 +1,7 @@
 use Rattle.std.proofs.Common.{sym, ◌∙◌}
 use Rattle.gs_plain.proofs.RowLemmas.{newest_none, newest_step, newest_end, derived_eq}
 use Rattle.gs_plain.proofs.books.newest.Goals as goal
-use Rattle.gs_plain.proofs.books.newest.Goals.{then-eq+then-row, then-eq+else-row, else-eq}
+use Rattle.gs_plain.proofs.books.newest.Goals.{then-eq+then-is_some, then-eq+else-is_some, else-eq}
 
 pub loop-i-init : goal.loop-i-init
 loop-i-init c = newest_none c.args.rows.now c.args.target.now
@@ -13,8 +13,8 @@ loop-i-preserved c =
     let same = sym (derived_eq row.target c.args.target.now) ∙ sym c.eq.ensures in
     let next = newest_step rows c.loop-i.i row c.args.target.now c.loop-i.found c.eq.result c.loop-i-test.true c.index-rows-i.is same c.loop-i.invariant in
     elim c.if-eq.branch [
-      | then-eq+then-row w ↦ rw w.found-is (rw (w.if-eq.true, w.if-row.true) at next)
-      | then-eq+else-row w ↦ rw w.found-is (rw (w.if-eq.true, w.if-row.false) at next)
+      | then-eq+then-is_some w ↦ rw w.found-is (rw (w.if-eq.true, sym w.is_some.ensures ∙ w.if-is_some.true) at next)
+      | then-eq+else-is_some w ↦ rw w.found-is (rw (w.if-eq.true, sym w.is_some.ensures ∙ w.if-is_some.false) at next)
       | else-eq w ↦ rw w.found-is (rw w.if-eq.false at next)
     ]
 

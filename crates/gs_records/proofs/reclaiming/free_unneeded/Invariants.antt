@@ -1,4 +1,6 @@
-use Rattle.std.proofs.Common.{◌≡◌, ◌≤◌}
+use Rattle.std.proofs.Common.{◌≡◌, ◌+◌, ◌≤◌}
+use Rattle.gs_pool.specs.Pool.{aside_count}
+use Rattle.gs_reclaim.specs.Holders.{HasLists}
 use Rattle.gs_records.specs.Sweeps.{Sweeps}
 use Rattle.gs_records.proofs.reclaiming.free_unneeded.Given as goal
 
@@ -8,6 +10,9 @@ invariant-loop-freed l = record {
   limit : l.pool.limit ≡ l.fn.pool.limit;
   pins : l.pool.pins ≡ l.fn.pool.pins;
   most : l.freed ≤ l.n;
+  least : l.freed ≤ l.looked;
+  cost : l.looked + l.pool.loose ≤ l.fn.pool.loose;
+  aside : HasLists l.fn.pool l.versions → aside_count l.pool ≡ 0;
 }
 
 abbrev pub decreases-loop-freed : goal.decreases-loop-freed

@@ -9,11 +9,11 @@ returns-in-Ok-Delete g c = λ e b t over.
 
 pub returns-in-Ok-Look : goal.returns-in-Ok-Look
 returns-in-Ok-Look g c = λ e b t over.
-    look_steps g.D.Door.Gives c.args.setup.now e c.args.asked t c.in-Ok-Look.target b c.args.door.now c.look.new.door c.look.result over (sym c.in-Ok-Look.ensures ∙ ap plan_told c.in-Ok-Look.field-0-is) c.look.ensures
+    look_steps g.D.Door.Gives c.args.setup.now e c.args.asked t c.in-Ok-Look.scope b c.args.door.now c.look.new.door c.look.result over (sym c.in-Ok-Look.ensures ∙ ap plan_told c.in-Ok-Look.field-0-is) c.look.ensures
 
 pub returns-in-Ok-Read : goal.returns-in-Ok-Read
 returns-in-Ok-Read g c = λ e b t over.
-    pin_steps g.D.Door.Gives c.args.setup.now e c.args.asked t c.in-Ok-Read.target b c.args.door.now c.pin.new.door c.pin.result over (sym c.in-Ok-Read.ensures ∙ ap plan_told c.in-Ok-Read.field-0-is) c.pin.ensures
+    pin_steps g.D.Door.Gives c.args.setup.now e c.args.asked t c.in-Ok-Read.scope b c.args.door.now c.pin.new.door c.pin.result over (sym c.in-Ok-Read.ensures ∙ ap plan_told c.in-Ok-Read.field-0-is) c.pin.ensures
 
 pub returns-in_default : goal.returns-in_default
 returns-in_default g c = λ e b t over. early_steps g.D.Door.Gives c.args.setup.now e c.args.asked t b c.args.door.now c.reply.result c.reply.ensures

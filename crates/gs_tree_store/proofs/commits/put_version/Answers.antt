@@ -27,4 +27,4 @@ returns c =
     let put = c.put.ensures in
     let new : Books = record b { pool = c.end_tree.new.pool; versions = c.end_tree.new.versions; records = c.put.new.self } in
     let ends = tree_ended b t c.or_empty-old.result new.pool new.versions new.records (version_found b t c.args.found c.or_empty-old.result c.or_empty-old.ensures c.requires.found) ended.commit ended.nodes ended.aside ended.ledgers in
-    put_made b new c.args.opened t c.args.upload c.commit-commit.result ends put c.commit-commit.ensures c.requires.sound c.requires.upload.version c.requires.number
+    put_made b new c.args.opened t c.args.upload c.commit-commit.result ends put c.commit-commit.ensures c.requires.opened c.requires.sound c.requires.upload.version c.requires.number

@@ -1,4 +1,4 @@
-use Rattle.std.proofs.Common.{sym, ap, subst, ◌∙◌, arith}
+use Rattle.std.proofs.Common.{◌≡◌, ◌+◌, sym, ap, subst, ◌∙◌, arith}
 use Rattle.gs_catalogue.specs.declared.versions.GraphVersion.{GraphVersion}
 use Rattle.gs_versions.specs.Pins.{Pins}
 use Rattle.gs_ledger.specs.Marks.{dead_at}
@@ -6,7 +6,7 @@ use Rattle.gs_reclaim.specs.Reclaims.{CanRetireRoot}
 use Rattle.gs_tree_store.specs.declared.books.Books.{Books}
 use Rattle.gs_tree_store.specs.Books.{graphs_of}
 use Rattle.gs_tree_store.proofs.RecordLemmas.{removal_wastes}
-use Rattle.gs_tree_store.proofs.OpenedLemmas.{end_same}
+use Rattle.gs_tree_store.proofs.OpenedLemmas.{end_same, all_removed}
 use Rattle.gs_tree_store.proofs.CommitLemmas.{version_found, target_retirable, tree_ended, removed}
 use Rattle.gs_tree_store.proofs.commits.remove_version.Goals as goal
 
@@ -29,5 +29,6 @@ returns c =
     let new : Books = record b { pool = c.end_tree.new.pool; versions = c.end_tree.new.versions; records = c.remove.new.self } in
     let ends = tree_ended b t c.or_empty-old.result new.pool new.versions new.records (version_found b t c.args.found c.or_empty-old.result c.or_empty-old.ensures c.requires.found) ended.commit ended.nodes ended.aside ended.ledgers in
     let last = c.commit-commit.ensures in
-    let wastes = removal_wastes b new.records t c.commit-commit.result (last ∙ ap (λ (v : Pins). v.commit) ended.commit) gone c.requires.sound in
-    removed b new (gone.latest ∙ last) (end_same b new t c.commit-commit.result gone.ends) gone.counts c.requires.sound c.requires.number t wastes ends gone.now
+    let next : c.commit-commit.result ≡ b.versions.commit + 1 = last ∙ ap (λ (v : Pins). v.commit) ended.commit in
+    let wastes = removal_wastes b new.records t c.commit-commit.result next gone c.requires.sound in
+    removed b new (record { latest = gone.latest ∙ last; numbers = gone.limit ∙ c.requires.sound.numbers }) (end_same b new t c.commit-commit.result gone.ends) (all_removed b new t c.commit-commit.result (omega (arith, next)) gone) gone.counts c.requires.sound c.requires.number t wastes ends gone.now

@@ -11,7 +11,7 @@ use Rattle.gs_event.specs.Steps.{UpdateRecords}
 use Rattle.gs_tree_store.specs.Opened.{own_record}
 use Rattle.gs_tree_store.specs.Actions.{Acts}
 use Rattle.gs_tree_store.proofs.RecordLemmas.{granted_well, patch_wastes}
-use Rattle.gs_tree_store.proofs.OpenedLemmas.{records_stay, put_lets_go, record_let_go, record_given_up}
+use Rattle.gs_tree_store.proofs.OpenedLemmas.{records_stay, put_lets_go, all_put, record_let_go, record_given_up}
 use Rattle.gs_tree_store.proofs.AlikeLemmas.{gives_up_same, with_records}
 use Rattle.gs_tree_store.proofs.WriteLemmas.{has_counts, next_later}
 use Rattle.gs_tree_store.proofs.UndoneLemmas.{with_nodes}
@@ -99,13 +99,13 @@ returns-in-Granted-clause-acts c = λ s ready.
     let decided = patch_decided b t there birth d q ops.items v c.holdings-held.result c.place-place.result (Granted g.status g.field-1 g.field-2) made c.holdings-held.ensures c.place-place.ensures g.ensures in
     subst (λ x. Acts b (with_draft b d kept.pool kept.versions records) s (Patching t c.args.request c.args.opened) x (CommitPatch ops) (Status g.status None)) (sym c.requires.idle)
     (patch_kept b d q kept.pool kept.versions records s t c.args.request c.args.opened ops v birth g.status g.field-1 g.field-2 (omega (arith, c.commit-birth.ensures)) c.in-Ok.ensures.grows made
-    c.keep_draft.ensures.ledgers c.keep_draft.ensures.commit c.keep_draft.ensures.nodes c.keep_draft.ensures.aside c.put.ensures.now c.put.ensures.latest decided ready)
+    c.keep_draft.ensures.ledgers c.keep_draft.ensures.commit c.keep_draft.ensures.nodes c.keep_draft.ensures.aside c.put.ensures.now (record { latest = c.put.ensures.latest; limit = c.put.ensures.limit }) decided ready)
 
 pub returns-then-not-is_there-clause-records : goal.returns-then-not-is_there-clause-records
 returns-then-not-is_there-clause-records c =
     let b = c.args.books.now in
     let was = Patching c.args.target c.args.request c.args.opened in
-    record_given_up b (with_records b c.give_up.new.self) was c.args.seat.now (CommitPatch c.args.operations.now) (Status 404 None) c.args.opened refl (ap own_record c.requires.idle) c.give_up.ensures (λ e. e) (λ j. j)
+    record_given_up b (with_records b c.give_up.new.self) was c.args.seat.now (CommitPatch c.args.operations.now) (Status 404 None) c.args.opened refl (ap own_record c.requires.idle) (c.requires.opened c.args.opened refl) c.give_up.ensures (λ e. e) (λ j. j)
 
 pub returns-in_default-clause-records : goal.returns-in_default-clause-records
 returns-in_default-clause-records c =
@@ -118,7 +118,7 @@ returns-in-Full-clause-records c =
     let b = c.args.books.now in
     let new : Books = with_records (with_nodes b c.patched-draft.new.dict c.take_back.new.pool) c.give_up-in-Full.new.self in
     let was = Patching c.args.target c.args.request c.args.opened in
-    record_given_up b new was c.args.seat.now (CommitPatch c.args.operations.now) (Status 507 None) c.args.opened refl (ap own_record c.requires.idle) c.give_up-in-Full.ensures (λ e. e) (λ j. j)
+    record_given_up b new was c.args.seat.now (CommitPatch c.args.operations.now) (Status 507 None) c.args.opened refl (ap own_record c.requires.idle) (c.requires.opened c.args.opened refl) c.give_up-in-Full.ensures (λ e. e) (λ j. j)
 
 pub returns-in-LastNumber-clause-records : goal.returns-in-LastNumber-clause-records
 returns-in-LastNumber-clause-records c =
@@ -149,8 +149,8 @@ returns-in-Granted-clause-records c =
     let decided = patch_decided b t there birth d q ops.items v c.holdings-held.result c.place-place.result (Granted g.status g.field-1 g.field-2) made c.holdings-held.ensures c.place-place.ensures g.ensures in
     let acts : Acts b new some.number was Idle (CommitPatch ops) answer =
     patch_kept b d q r.pool r.versions c.put.new.self some.number t c.args.request c.args.opened ops v birth g.status g.field-1 g.field-2 next c.in-Ok.ensures.grows made
-    kept.ledgers kept.commit kept.nodes kept.aside puts.now puts.latest decided some.ready in
+    kept.ledgers kept.commit kept.nodes kept.aside puts.now (record { latest = puts.latest; limit = puts.limit }) decided some.ready in
     let well = granted_well c.holdings-held.result c.place-place.result v.triples false g.status g.field-1 g.field-2 g.ensures in
     let wastes = patch_wastes b new some.number g.status Idle t c.args.request c.args.opened v birth next puts some.ready.sound well ops acts in
-    record_let_go b new was c.args.seat.now (CommitPatch ops) answer c.args.opened refl (ap own_record c.requires.idle) (put_lets_go b new c.args.opened t v birth puts) puts.counts puts.counts.used
+    record_let_go b new was c.args.seat.now (CommitPatch ops) answer c.args.opened refl (ap own_record c.requires.idle) (put_lets_go b new c.args.opened t v birth puts) (all_put b new c.args.opened t v birth (omega (arith, next)) (c.requires.opened c.args.opened refl) puts) puts.counts puts.counts.used
     (subst (λ x. UpdateRecords (totals_of b) t ops.items x (waste_in b.records.records) (waste_in new.records.records)) (sym well) wastes)

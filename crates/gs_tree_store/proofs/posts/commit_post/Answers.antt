@@ -12,7 +12,7 @@ use Rattle.gs_event.specs.Steps.{UploadRecords}
 use Rattle.gs_tree_store.specs.Opened.{own_record}
 use Rattle.gs_tree_store.specs.Actions.{Acts}
 use Rattle.gs_tree_store.proofs.RecordLemmas.{granted_well, post_wastes}
-use Rattle.gs_tree_store.proofs.OpenedLemmas.{refused_stays, put_lets_go, record_let_go, record_given_up}
+use Rattle.gs_tree_store.proofs.OpenedLemmas.{refused_stays, put_lets_go, all_put, record_let_go, record_given_up}
 use Rattle.gs_tree_store.proofs.AlikeLemmas.{gives_up_same, with_records}
 use Rattle.gs_tree_store.proofs.UndoneLemmas.{with_nodes}
 use Rattle.gs_tree_store.proofs.DraftLemmas.{with_draft}
@@ -73,7 +73,7 @@ returns-in-Granted-clause-acts c = λ s ready.
     draft_stored c.args.books.now c.args.target c.args.request c.args.upload c.args.opened _ c.as_slice-run.result.now c.requires.ready apart
     _ (c.commit-birth.result + 1) c.version_of-old.result c.in-Ok-united.draft c.version_of-old.ensures c.in-Ok-united.ensures.ok _ _ c.holdings-held.ensures c.place-place.ensures
     c.keep_draft.new.pool c.keep_draft.new.versions c.put.new.self s c.in-Granted.status _ _ c.args.seat.now c.requires.idle c.in-Granted.ensures
-    (omega (arith, c.commit-birth.ensures)) kept.ledgers kept.commit kept.nodes kept.aside c.put.ensures.now c.put.ensures.latest ready
+    (omega (arith, c.commit-birth.ensures)) kept.ledgers kept.commit kept.nodes kept.aside c.put.ensures.now (record { latest = c.put.ensures.latest; limit = c.put.ensures.limit }) ready
 
 pub give_up-requires : goal.give_up-requires
 give_up-requires c = c.requires.opened c.args.opened refl
@@ -101,7 +101,7 @@ returns-in-Full-clause-records c =
     let b = c.args.books.now in
     let new : Books = with_records (with_nodes b b.dict c.take_back.new.pool) c.give_up.new.self in
     let was = Writing (Post c.args.target) c.args.request c.args.upload c.args.opened in
-    record_given_up b new was c.args.seat.now Commit (Status 507 None) c.args.opened refl (ap own_record c.requires.idle) c.give_up.ensures (λ e. e) (λ j. j)
+    record_given_up b new was c.args.seat.now Commit (Status 507 None) c.args.opened refl (ap own_record c.requires.idle) (c.requires.opened c.args.opened refl) c.give_up.ensures (λ e. e) (λ j. j)
 
 pub returns-in-LastNumber-clause-records : goal.returns-in-LastNumber-clause-records
 returns-in-LastNumber-clause-records c =
@@ -127,7 +127,7 @@ returns-in-Granted-clause-records c =
     draft_stored b t c.args.request c.args.upload c.args.opened _ c.as_slice-run.result.now some apart
     _ birth c.version_of-old.result v c.version_of-old.ensures c.in-Ok-united.ensures.ok _ _ c.holdings-held.ensures c.place-place.ensures
     c.keep_draft.new.pool c.keep_draft.new.versions c.put.new.self some.number status _ _ c.args.seat.now c.requires.idle c.in-Granted.ensures
-    next kept.ledgers kept.commit kept.nodes kept.aside c.put.ensures.now c.put.ensures.latest some.ready in
+    next kept.ledgers kept.commit kept.nodes kept.aside c.put.ensures.now (record { latest = c.put.ensures.latest; limit = c.put.ensures.limit }) some.ready in
     let wastes = post_wastes b new some.number status c.args.seat.now t c.args.request c.args.opened v birth next c.put.ensures some.ready.sound well c.args.upload acts in
-    record_let_go b new was c.args.seat.now Commit (Status status None) c.args.opened refl (ap own_record c.requires.idle) (put_lets_go b new c.args.opened t v birth c.put.ensures) c.put.ensures.counts c.put.ensures.counts.used
+    record_let_go b new was c.args.seat.now Commit (Status status None) c.args.opened refl (ap own_record c.requires.idle) (put_lets_go b new c.args.opened t v birth c.put.ensures) (all_put b new c.args.opened t v birth (omega (arith, next)) (c.requires.opened c.args.opened refl) c.put.ensures) c.put.ensures.counts c.put.ensures.counts.used
     (subst (λ x. UploadRecords (totals_of b) (Post t) (upload_graph b c.args.upload) x (waste_in b.records.records) (waste_in new.records.records)) (sym well) wastes)

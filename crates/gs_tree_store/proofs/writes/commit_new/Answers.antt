@@ -86,7 +86,7 @@ returns-in-Full-clause-records c =
     let b = c.args.books.now in
     let new : Books = record b { pool = c.drop_tree.new.pool; records = c.give_up.new.self } in
     let was = Writing New c.args.request c.args.upload c.args.opened in
-    record_given_up b new was c.args.seat.now Commit (Status 507 None) c.args.opened refl (ap own_record c.requires.idle) c.give_up.ensures (λ e. e) (λ j. j)
+    record_given_up b new was c.args.seat.now Commit (Status 507 None) c.args.opened refl (ap own_record c.requires.idle) (c.requires.opened c.args.opened refl) c.give_up.ensures (λ e. e) (λ j. j)
 
 pub returns-in-LastNumber-clause-records : goal.returns-in-LastNumber-clause-records
 returns-in-LastNumber-clause-records c =
@@ -106,5 +106,5 @@ returns-in-Granted-clause-records c =
     let puts = subst (λ n. Puts b new c.args.opened (Named n) c.args.upload) c.in-Ok.ensures.0 c.put_version.ensures in
     let well = ap is_success decided.1 ∙ made_well (is_there (dataset_of b) (Named own)) in
     let wastes = new_wastes (totals_of b) r g (waste_in b.records.records) (waste_in new.records.records) puts.waste in
-    record_let_go b new (Writing New r c.args.upload c.args.opened) c.args.seat.now Commit (Status status (Some c.in-Ok.location)) c.args.opened refl (ap own_record c.requires.idle) puts.lets_go puts.counts puts.counts.used
+    record_let_go b new (Writing New r c.args.upload c.args.opened) c.args.seat.now Commit (Status status (Some c.in-Ok.location)) c.args.opened refl (ap own_record c.requires.idle) puts.lets_go puts.same puts.counts puts.counts.used
     (subst (λ x. UploadRecords (totals_of b) New g x (waste_in b.records.records) (waste_in new.records.records)) (sym well) wastes)

@@ -54,7 +54,7 @@ returns-in-Full-clause-records c =
     let b = c.args.books.now in
     let new : Books = record b { pool = c.drop_tree.new.pool; records = c.give_up.new.self } in
     let was = Writing (Put c.args.target) c.args.request c.args.upload c.args.opened in
-    record_given_up b new was c.args.seat.now Commit (Status 507 None) c.args.opened refl (ap own_record c.requires.idle) c.give_up.ensures (λ e. e) (λ j. j)
+    record_given_up b new was c.args.seat.now Commit (Status 507 None) c.args.opened refl (ap own_record c.requires.idle) (c.requires.opened c.args.opened refl) c.give_up.ensures (λ e. e) (λ j. j)
 
 pub returns-in-LastNumber-clause-records : goal.returns-in-LastNumber-clause-records
 returns-in-LastNumber-clause-records c =
@@ -71,5 +71,5 @@ returns-in-Granted-clause-records c =
     let status = c.in-Granted.status in
     let was = Writing (Put t) c.args.request c.args.upload c.args.opened in
     let well = ap is_success c.in-Granted.ensures.1 ∙ made_well (is_there (dataset_of b) t) in
-    record_let_go b new was c.args.seat.now Commit (Status status None) c.args.opened refl (ap own_record c.requires.idle) puts.lets_go puts.counts puts.counts.used
+    record_let_go b new was c.args.seat.now Commit (Status status None) c.args.opened refl (ap own_record c.requires.idle) puts.lets_go puts.same puts.counts puts.counts.used
     (subst (λ x. UploadRecords (totals_of b) (Put t) (upload_graph b c.args.upload) x (waste_in b.records.records) (waste_in new.records.records)) (sym well) puts.waste)

@@ -28,5 +28,5 @@ returns-in-Granted-clause-records c =
     let answer = Status c.in-Granted.status None in
     let well = ap is_success c.in-Granted.ensures.1 in
     subst (λ x. KeepsRecords b new x x (Delete t) answer) (sym c.in-Idle.is)
-    (open_stays b new Idle Idle (Delete t) answer refl gone.same_opened gone.counts gone.counts.used
+    (open_stays b new Idle Idle (Delete t) answer refl gone.same_opened gone.same gone.counts gone.counts.used
     (subst (λ x. DeleteRecords (totals_of b) t x (waste_in b.records.records) (waste_in new.records.records)) (sym well) gone.waste))

@@ -27,7 +27,7 @@ after c = record { alloc = c.self.inside.alloc; books = c.act-answer.new.books; 
 is_kept : (c : goal.After-in_use-after) → IsKept (after c)
 is_kept c =
     let within : c.args.number < length c.self.inside.seats.items = omega arith in
-    kept_after c.self.inside (after c) c.args.number c.index_mut-held.result.now c.act-answer.new.seat c.args.action.now c.act-answer.result c.self.invariant within c.index_mut-held.ensures.value refl c.act-answer.ensures.acts c.act-answer.ensures.records
+    kept_after c.self.inside (after c) c.args.number c.index_mut-held.result.now c.act-answer.new.seat c.args.action.now c.act-answer.result c.self.invariant within c.index_mut-held.ensures.value refl c.act-answer.ensures.acts c.act-answer.ensures.records c.latest-listed.ensures.listed c.latest-still.ensures.listed
 
 pub invariant_of-self : goal.invariant_of-self
 invariant_of-self c = is_kept c
@@ -35,9 +35,9 @@ invariant_of-self c = is_kept c
 pub returns-clause-steps : goal.returns-clause-steps
 returns-clause-steps c =
     let within : c.args.number < length c.self.inside.seats.items = omega arith in
-    steps_after c.self.inside (after c) c.args.number c.index_mut-held.result.now c.act-answer.new.seat c.args.action.now c.act-answer.result c.self.invariant within c.index_mut-held.ensures.value refl c.act-answer.ensures.acts c.act-answer.ensures.records c.args.self.now c.self.view_is
+    steps_after c.self.inside (after c) c.args.number c.index_mut-held.result.now c.act-answer.new.seat c.args.action.now c.act-answer.result c.self.invariant within c.index_mut-held.ensures.value refl c.act-answer.ensures.acts c.act-answer.ensures.records c.latest-listed.ensures.listed c.latest-still.ensures.listed c.args.self.now c.self.view_is
 
 pub returns-clause-uses : goal.returns-clause-uses
 returns-clause-uses c =
     let within : c.args.number < length c.self.inside.seats.items = omega arith in
-    uses_after c.self.inside (after c) c.args.number c.index_mut-held.result.now c.act-answer.new.seat c.args.action.now c.act-answer.result c.self.invariant within c.index_mut-held.ensures.value refl c.act-answer.ensures.acts c.act-answer.ensures.records c.args.self.now c.self.view_is (is_kept c) c.in_use-before.ensures.parts c.in_use-after.ensures.parts
+    uses_after c.self.inside (after c) c.args.number c.index_mut-held.result.now c.act-answer.new.seat c.args.action.now c.act-answer.result c.self.invariant within c.index_mut-held.ensures.value refl c.act-answer.ensures.acts c.act-answer.ensures.records c.latest-listed.ensures.listed c.latest-still.ensures.listed c.args.self.now c.self.view_is (is_kept c) c.in_use-before.ensures.parts c.in_use-after.ensures.parts

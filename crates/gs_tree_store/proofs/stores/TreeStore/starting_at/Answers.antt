@@ -1,4 +1,4 @@
-use Rattle.std.proofs.Common.{refl, ap, ◌∙◌, []}
+use Rattle.std.proofs.Common.{refl, ap, ◌∙◌, [], arith}
 use Rattle.gs_event.specs.Histories.{start_with, view_of}
 use Rattle.gs_records.specs.Records.{Recorded}
 use Rattle.gs_tree_store.specs.declared.stores.TreeStore.TheInside.{Inside}
@@ -14,6 +14,7 @@ is_fresh c = record {
   marks = c.in_ok-pool.ensures.marks;
   records = ap (λ (x : Recorded). x.records) c.in_ok-records.ensures;
   latest = ap (λ (x : Recorded). x.latest) c.in_ok-records.ensures;
+  limit = omega (arith, ap (λ (x : Recorded). x.limit) c.in_ok-records.ensures);
   versions = c.in_ok-versions.ensures;
   idle = c.in_ok-idle.ensures;
 }

@@ -1,0 +1,138 @@
+//! A store of 512 seats, each of which reads all graphs at a version of its own.
+use crate::large::{push_line, triple};
+use crate::lines::{Bounds, Lines};
+use gs_drawn_events::{Place, target};
+use gs_event::{Action, Event, Scope, UploadKind};
+use gs_model::Refusal;
+use std::alloc::Global;
+
+/// How many seats there are: the most that a store has.
+const SEATS: u16 = 512;
+
+/// The number of the triple of the default graph. That of the version of a seat is the seat's number after this.
+const FIRST: u64 = 4_000;
+
+/// What is counted where there are so many versions of the named graph, all of one triple: a node and a
+/// record for each of them and of the default graph.
+fn versions(count: u64) -> Bounds {
+    let nodes = count.saturating_add(1).saturating_mul(2);
+    Bounds::exactly(nodes, if count == 0 { 1 } else { 2 })
+}
+
+/// The same, with so many nodes and records more.
+fn versions_and(count: u64, more: u64) -> Bounds {
+    let bounds = versions(count);
+    Bounds::exactly(bounds.least.saturating_add(more), bounds.triples)
+}
+
+/// The number of the triple of a seat's version.
+fn number_of(seat: u16) -> u64 {
+    FIRST.saturating_add(1).saturating_add(u64::from(seat))
+}
+
+/// A seat stages the triple of this number.
+fn stage(alloc: Global, seat: u16, number: u64) -> Result<Event, Refusal> {
+    let mut one = Vec::new(alloc);
+    one.push(triple(alloc, number)?)?;
+    Ok(Event::Seat(seat, Action::Stage(one)))
+}
+
+/// Seat 0 puts the triple of the default graph.
+fn push_default(alloc: Global, lines: &mut Lines) -> Result<(), Refusal> {
+    let open = Action::Open(UploadKind::Put(target(alloc, Place::Default)?));
+    let opened = Bounds::exactly(1, 0);
+    lines.push("Open", Event::Seat(0, open), "opened 1", opened)?;
+    let staged = Bounds::exactly(2, 0);
+    lines.push("Stage", stage(alloc, 0, FIRST)?, "staged", staged)?;
+    let commit = Event::Seat(0, Action::Commit);
+    lines.push("Commit", commit, "status 204", versions(0))?;
+    Ok(())
+}
+
+/// A seat puts a triple of its own over the named graph.
+fn push_version(alloc: Global, lines: &mut Lines, seat: u16) -> Result<(), Refusal> {
+    let before = u64::from(seat);
+    let request = before.saturating_add(2);
+    let open = Action::Open(UploadKind::Put(target(alloc, Place::A)?));
+    let words = format!(in alloc; "opened {request}")?;
+    let opened = versions_and(before, 1);
+    lines.push("Open", Event::Seat(seat, open), words.as_str(), opened)?;
+    let staged = versions_and(before, 2);
+    lines.push(
+        "Stage",
+        stage(alloc, seat, number_of(seat))?,
+        "staged",
+        staged,
+    )?;
+    let status = if seat == 0 {
+        "status 201"
+    } else {
+        "status 204"
+    };
+    let commit = Event::Seat(seat, Action::Commit);
+    lines.push("Commit", commit, status, versions(before.saturating_add(1)))?;
+    Ok(())
+}
+
+/// A seat begins a read of all graphs, and is given the line of the default graph.
+fn push_pin(alloc: Global, lines: &mut Lines, seat: u16) -> Result<(), Refusal> {
+    let bounds = versions(u64::from(seat).saturating_add(1));
+    let pin = Event::Seat(seat, Action::Pin(Scope::All));
+    lines.push("Pin", pin, "pinned 200", bounds)?;
+    let mut words = String::from_str(alloc, "lines ")?;
+    push_line(&mut words, alloc, FIRST)?;
+    words.push_str("more")?;
+    let piece = Event::Seat(seat, Action::Piece(1));
+    lines.push("Piece", piece, words.as_str(), bounds)?;
+    Ok(())
+}
+
+/// A seat is given the line of its version. Where that is not the newest, its node and its record are freed
+/// then: so many versions of the named graph are there before, and so many are left.
+fn push_last(
+    alloc: Global,
+    lines: &mut Lines,
+    seat: u16,
+    before: u64,
+    left: u64,
+) -> Result<(), Refusal> {
+    let number = number_of(seat);
+    let words = format!(in alloc;
+        "lines <http://e/s{number}> <http://e/p> \"{number}\" <http://e/a> .\nend"
+    )?;
+    let piece = Event::Seat(seat, Action::Piece(1));
+    lines.push("Piece", piece, words.as_str(), versions(before))?;
+    lines.push_reclaim(left > 1, versions(left))?;
+    Ok(())
+}
+
+/// The seats end their reads, every seventh after the one before, round and round, so that each comes once.
+fn push_ends(alloc: Global, lines: &mut Lines) -> Result<(), Refusal> {
+    let last = SEATS.saturating_sub(1);
+    let mut count = u64::from(SEATS);
+    for turn in 0..SEATS {
+        let place = u32::from(turn).saturating_mul(7) % 512;
+        let seat = u16::try_from(place).unwrap_or_default();
+        let left = count.saturating_sub(u64::from(seat != last));
+        push_last(alloc, lines, seat, count, left)?;
+        count = left;
+    }
+    Ok(())
+}
+
+fn push_all(alloc: Global, lines: &mut Lines) -> Result<(), Refusal> {
+    push_default(alloc, lines)?;
+    for seat in 0..SEATS {
+        push_version(alloc, lines, seat)?;
+        push_pin(alloc, lines, seat)?;
+    }
+    lines.push_reclaim(true, versions(u64::from(SEATS)))?;
+    push_ends(alloc, lines)
+}
+
+/// The schedule of a store of so many seats.
+pub fn seat_lines(alloc: Global) -> Result<Lines, Refusal> {
+    let mut lines = Lines::new(alloc);
+    push_all(alloc, &mut lines)?;
+    Ok(lines)
+}

@@ -1,0 +1,14 @@
+//! Tests of a store that four threads share: a graph that all write is read whole, all graphs are read as
+//! they were at one moment, and the page that is left replays in a plain model.
+#![tactic(auto)]
+
+#[cfg(test)]
+mod models;
+#[cfg(test)]
+mod moments;
+#[cfg(test)]
+mod replays;
+#[cfg(test)]
+mod rounds;
+#[cfg(test)]
+mod threads;

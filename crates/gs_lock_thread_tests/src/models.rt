@@ -1,0 +1,243 @@
+//! A plain model of a store, apart from it: for each named graph its lines. It knows the requests of the
+//! rounds alone; the status of another is 0, which none has.
+use gs_chronicle::{Request, Upload};
+use gs_core::{Op, Part, Pattern, Refusal, UploadKind};
+use gs_event::Scope;
+use gs_ntwrite::line;
+use gs_term::{Target, Triple};
+use std::alloc::Global;
+
+/// A graph: its name, and its lines in their order, each once.
+#[derive(Drop)]
+struct Graph {
+    name: Vec<u8>,
+    lines: Vec<Vec<u8>>,
+}
+
+/// All named graphs.
+#[derive(Drop)]
+pub struct Model {
+    graphs: Vec<Graph>,
+}
+
+/// The name of a target, none for the default graph.
+fn name_of(target: &Target) -> &[u8] {
+    match target {
+        Target::Default => b"",
+        Target::Named(name) => name.as_bytes(),
+    }
+}
+
+/// Where a line goes among lines. `None` where it stands there.
+fn place_among(lines: &[Vec<u8>], more: &[u8]) -> Option<usize> {
+    let mut place = 0usize;
+    for one in lines {
+        if one.as_slice() == more {
+            return None;
+        }
+        if one.as_slice() < more {
+            place = place.saturating_add(1);
+        }
+    }
+    Some(place)
+}
+
+/// Adds the line of a triple.
+fn add(alloc: Global, lines: &mut Vec<Vec<u8>>, triple: &Triple) -> Result<(), Refusal> {
+    let mut bytes = Vec::new(alloc);
+    line(triple, &mut bytes)?;
+    if let Some(place) = place_among(lines.as_slice(), bytes.as_slice()) {
+        lines.insert(place.min(lines.len()), bytes)?;
+    }
+    Ok(())
+}
+
+/// Adds the line of each triple.
+fn add_all(alloc: Global, lines: &mut Vec<Vec<u8>>, triples: &[Triple]) -> Result<(), Refusal> {
+    for triple in triples {
+        add(alloc, lines, triple)?;
+    }
+    Ok(())
+}
+
+/// Adds the line of each triple of an upload.
+fn add_staged(alloc: Global, lines: &mut Vec<Vec<u8>>, upload: &Upload) -> Result<(), Refusal> {
+    let mut triples = upload.triples();
+    while let Some(triple) = triples.next() {
+        add(alloc, lines, &triple.to_triple(alloc)?)?;
+    }
+    Ok(())
+}
+
+/// The lines of all triples of an upload.
+fn staged(alloc: Global, upload: &Upload) -> Result<Vec<Vec<u8>>, Refusal> {
+    let mut lines = Vec::new(alloc);
+    add_staged(alloc, &mut lines, upload)?;
+    Ok(lines)
+}
+
+/// The predicate of patterns that are one, whose subject and object are variables.
+fn predicate_of(patterns: &[Pattern]) -> &[u8] {
+    match patterns {
+        [
+            Pattern {
+                subject: Part::Variable(_),
+                predicate: Part::Term(predicate),
+                object: Part::Variable(_),
+            },
+        ] => predicate.as_bytes(),
+        _ => b"",
+    }
+}
+
+/// The predicate of a line.
+fn predicate_in(line: &[u8]) -> &[u8] {
+    let mut words = line.split(|byte| *byte == b' ');
+    let _ = words.next();
+    words.next().unwrap_or_default()
+}
+
+/// The lines that have not this predicate.
+fn without(
+    alloc: Global,
+    lines: &mut Vec<Vec<u8>>,
+    predicate: &[u8],
+) -> Result<Vec<Vec<u8>>, Refusal> {
+    let mut kept = Vec::new(alloc);
+    for one in lines.drain(..) {
+        if predicate_in(one.as_slice()) != predicate {
+            kept.push(one)?;
+        }
+    }
+    Ok(kept)
+}
+
+/// Adds the lines of a graph to a text, with its name before the dot of each.
+fn add_quads(text: &mut Vec<u8>, graph: &Graph) -> Result<(), Refusal> {
+    for one in &graph.lines {
+        let front = one.as_slice().strip_suffix(b".\n".as_slice());
+        text.extend_from_slice(front.unwrap_or_default())?;
+        text.push(b'<')?;
+        text.extend_from_slice(graph.name.as_slice())?;
+        text.extend_from_slice(b"> .\n".as_slice())?;
+    }
+    Ok(())
+}
+
+impl Graph {
+    /// Takes an operation.
+    fn take(&mut self, alloc: Global, op: &Op) -> Result<(), Refusal> {
+        match op {
+            Op::Insert(triples) => add_all(alloc, &mut self.lines, triples.as_slice()),
+            Op::DeleteWhere(patterns) => {
+                let predicate = predicate_of(patterns.as_slice());
+                self.lines = without(alloc, &mut self.lines, predicate)?;
+                Ok(())
+            }
+            Op::DeleteData(_) => Ok(()),
+        }
+    }
+}
+
+impl Model {
+    /// No named graphs.
+    pub fn new(alloc: Global) -> Model {
+        Model {
+            graphs: Vec::new(alloc),
+        }
+    }
+
+    fn place(&self, name: &[u8]) -> Option<usize> {
+        for (place, graph) in self.graphs.iter().enumerate() {
+            if graph.name.as_slice() == name {
+                return Some(place);
+            }
+        }
+        None
+    }
+
+    fn put(&mut self, alloc: Global, name: &[u8], lines: Vec<Vec<u8>>) -> Result<u16, Refusal> {
+        if let Some(place) = self.place(name) {
+            if let Some(graph) = self.graphs.get_mut(place) {
+                graph.lines = lines;
+            }
+            return Ok(204);
+        }
+        let name = Vec::from_slice(alloc, name)?;
+        self.graphs.push(Graph { name, lines })?;
+        Ok(201)
+    }
+
+    fn patch(&mut self, alloc: Global, name: &[u8], ops: &[Op]) -> Result<u16, Refusal> {
+        let Some(place) = self.place(name) else {
+            return Ok(404);
+        };
+        if let Some(graph) = self.graphs.get_mut(place) {
+            for op in ops {
+                graph.take(alloc, op)?;
+            }
+        }
+        Ok(204)
+    }
+
+    fn delete(&mut self, name: &[u8]) -> u16 {
+        match self.place(name) {
+            Some(place) if place < self.graphs.len() => {
+                let _ = self.graphs.remove(place);
+                204
+            }
+            _ => 404,
+        }
+    }
+
+    /// The status of a question about a scope, and of a read of it. All graphs are always there.
+    fn status_of(&self, scope: &Scope) -> u16 {
+        match scope {
+            Scope::All => 200,
+            Scope::One(target) => match self.place(name_of(target)) {
+                Some(_) => 200,
+                None => 404,
+            },
+        }
+    }
+
+    /// Takes a request, and gives the status that it must have.
+    pub fn take(&mut self, alloc: Global, request: &Request) -> Result<u16, Refusal> {
+        match request {
+            Request::Upload(upload) => match upload.kind() {
+                UploadKind::Put(target) => self.put(alloc, name_of(target), staged(alloc, upload)?),
+                UploadKind::Post(_) | UploadKind::New => Ok(0),
+            },
+            Request::Patch(target, ops) => self.patch(alloc, name_of(target), ops.as_slice()),
+            Request::Delete(target) => Ok(self.delete(name_of(target))),
+            Request::Head(scope) | Request::Pin(scope) => Ok(self.status_of(scope)),
+        }
+    }
+
+    /// The lines of the graphs of these names, in this order, with the name of its graph in each; none
+    /// for one that is not there.
+    pub fn quads(&self, alloc: Global, names: &[&str]) -> Result<Vec<u8>, Refusal> {
+        let mut text = Vec::new(alloc);
+        for name in names {
+            if let Some(place) = self.place(name.as_bytes()) {
+                if let Some(graph) = self.graphs.get(place) {
+                    add_quads(&mut text, graph)?;
+                }
+            }
+        }
+        Ok(text)
+    }
+
+    /// The text of a graph, empty where it is not there.
+    pub fn text(&self, alloc: Global, name: &str) -> Result<Vec<u8>, Refusal> {
+        let mut text = Vec::new(alloc);
+        for graph in &self.graphs {
+            if graph.name.as_slice() == name.as_bytes() {
+                for one in &graph.lines {
+                    text.extend_from_slice(one.as_slice())?;
+                }
+            }
+        }
+        Ok(text)
+    }
+}

@@ -1,0 +1,268 @@
+//! Four threads that write, read, patch and delete graphs of their own and one that all share, and read all
+//! of them.
+ghost use Rattle.std.specs.Prelude.{◌≡◌, ◌<◌, [], codes};
+ghost use Rattle.crossbeam_utils.specs.Seq.{cell_view};
+ghost use Rattle.gs_core.specs.Settings.{start_at};
+ghost use Rattle.gs_pass.specs.Stamps.{keeper as keeper_of};
+
+use crate::models::Model;
+use crate::moments::{is_moment, read_all as read_moment};
+use crate::replays::{counts_of_all, is_replayed, read, read_all, replays, stands};
+use crate::rounds::{expected, hold, is_whole};
+use gs_chronicle::Entry;
+use gs_core::Refusal;
+use gs_shared::{
+    CountedLedger, Ended, Pass, Record, Room, Shared, SharedStore, StampCell, Token, stamp_cell,
+};
+use std::alloc::Global;
+use std::marker::Brand;
+use std::sync::Wait;
+use std::sync::ledger::Blank;
+use std::test::Fail;
+use std::thread;
+use std::thread::Threads;
+
+/// The rounds of each thread on each of its two graphs.
+const ROUNDS: u32 = 1_000;
+
+/// The graph that all write.
+const ALL: &str = "http://e/z";
+
+/// A seat, the number of a round, and what was wrong of it.
+type Fault = (u16, u32, &'static str);
+
+/// Whether what the thread reads of all graphs after a round is of one moment.
+fn reads_moment<C: CountedLedger, T: CountedLedger, B: Room, R: Wait>(
+    rt: &R,
+    alloc: Global,
+    store: &SharedStore<C, T, B>,
+    pass: &mut Pass<C, T, B>,
+    round: u32,
+) -> Result<bool, Refusal> {
+    let moment = read_moment(rt, alloc, store, pass)?;
+    Ok(is_moment(moment.as_str(), pass.seat(), round))
+}
+
+/// A round on the thread's own graph, one on the graph of all, and a read of all graphs: which does not
+/// print what it must.
+fn both<C: CountedLedger, T: CountedLedger, B: Room, R: Wait>(
+    rt: &R,
+    alloc: Global,
+    store: &SharedStore<C, T, B>,
+    pass: &mut Pass<C, T, B>,
+    round: u32,
+) -> Result<Option<&'static str>, Refusal> {
+    let seat = pass.seat();
+    let mark = format!(in alloc; "{seat}-{round}")?;
+    let own = format!(in alloc; "http://e/own{seat}")?;
+    let said = hold(rt, alloc, store, pass, own.as_str(), mark.as_str(), round)?;
+    let want = expected(alloc, mark.as_str(), round)?;
+    let shared = hold(rt, alloc, store, pass, ALL, mark.as_str(), round)?;
+    let is_one = reads_moment(rt, alloc, store, pass, round)?;
+    if said.as_str() != want.as_str() {
+        return Ok(Some("its own graph"));
+    }
+    if !is_whole(shared.as_str(), round) {
+        return Ok(Some("the graph of all"));
+    }
+    Ok(if is_one { None } else { Some("all graphs") })
+}
+
+/// All rounds, and the first fault.
+fn work<C: CountedLedger, T: CountedLedger, B: Room, R: Wait>(
+    rt: &R,
+    alloc: Global,
+    store: &SharedStore<C, T, B>,
+    pass: Pass<C, T, B>,
+) -> (Pass<C, T, B>, Option<Fault>) {
+    let mut pass = pass;
+    let mut fault = None;
+    for round in 0..ROUNDS {
+        let wrong = both(rt, alloc, store, &mut pass, round).unwrap_or(Some("a refusal"));
+        if let Some(part) = wrong {
+            fault = fault.or(Some((pass.seat(), round, part)));
+        }
+    }
+    (pass, fault)
+}
+
+/// Each pass works in a thread of its own: the passes that come back, and the first fault of one of them.
+fn work_all<
+    C: CountedLedger + Send + Sync,
+    T: CountedLedger + Send + Sync,
+    B: Room + Send + Sync,
+    R: Threads + Wait + Sync,
+>(
+    rt: &R,
+    alloc: Global,
+    store: &SharedStore<C, T, B>,
+    passes: Vec<Pass<C, T, B>>,
+) -> Option<(Vec<Pass<C, T, B>>, Option<Fault>)> {
+    thread::scope(
+        thread::scope_env(),
+        rt,
+        move |scope| -> Option<(Vec<Pass<C, T, B>>, Option<Fault>)> {
+            let mut threads = Vec::with_capacity(alloc, 4).ok()?;
+            for pass in passes {
+                let works = scope.spawn(move || work(rt, alloc, store, pass)).ok()?;
+                threads.push(works).ok()?;
+            }
+            let mut back = Vec::with_capacity(alloc, 4).ok()?;
+            let mut fault = None;
+            for works in threads {
+                let (pass, own) = works.join(rt);
+                back.push(pass).ok()?;
+                fault = fault.or(own);
+            }
+            Some((back, fault))
+        },
+    )
+}
+
+/// Four threads work, and the store is ended.
+fn run<
+    C: CountedLedger + Send + Sync,
+    T: CountedLedger + Send + Sync,
+    B: Room + Send + Sync,
+    R: Threads + Wait + Sync,
+>(
+    rt: &R,
+    alloc: Global,
+    cell: StampCell,
+    keeper: Token,
+    calls: Blank,
+    triples: Blank,
+) -> Option<(Ended, Option<Fault>)>
+    requires cell { (cell.table.shared.table_id ≡ B.table)
+        × (keeper.table_id ≡ B.table)
+        × (cell_view keeper ≡ keeper_of [] []) }
+    requires start { B.start ≡ start_at 4 (codes "http://localhost") 0 0 }
+    requires calls { (calls.name ≡ C.name) × (calls.parts ≡ C.parts) × (C.all ≡ C.parts) × (4 < C.all) }
+    requires triples { (triples.name ≡ T.name) × (triples.parts ≡ T.parts) × (T.all ≡ T.parts) × (4 < T.all) }
+{
+    let mut shared: Shared<C, T, B> = Shared::new(
+        alloc,
+        4,
+        "http://localhost",
+        0,
+        cell,
+        keeper,
+        calls,
+        triples,
+    )
+    .ok()?;
+    let Ok(passes) = shared.passes(4) else {
+        drop(shared);
+        return None;
+    };
+    let Some(worked) = work_all(rt, alloc, shared.store(), passes) else {
+        drop(shared);
+        return None;
+    };
+    let (back, fault) = worked;
+    if back.len() != 4 {
+        drop(back);
+        drop(shared);
+        return None;
+    }
+    Some((shared.end(rt, back), fault))
+}
+
+/// What four threads leave, and the first fault of one of them.
+fn worked<R: Threads + Wait + Sync>(rt: &R, alloc: Global) -> Option<(Ended, Option<Fault>)> {
+    let (cell, keeper) = stamp_cell(alloc).ok()?;
+    let (calls, triples) = (Blank::new(5), Blank::new(5));
+    run::<Brand, Brand, Brand, R>(rt, alloc, cell, keeper, calls, triples)
+}
+
+/// Whether the ended store shows a graph as the plain model has it.
+fn is_alike(alloc: Global, ended: &mut Ended, model: &Model, name: &str) -> Result<bool, Refusal> {
+    let text = model.text(alloc, name)?;
+    let shown = read(alloc, ended, name)?;
+    Ok(!text.is_empty() && text.as_slice() == shown.as_slice())
+}
+
+/// The names of the five graphs, in the order in which a read of all has them.
+const NAMES: [&str; 5] = [
+    "http://e/own0",
+    "http://e/own1",
+    "http://e/own2",
+    "http://e/own3",
+    ALL,
+];
+
+/// The first graph that the ended store shows otherwise than the plain model.
+fn wrong_graph(
+    alloc: Global,
+    ended: &mut Ended,
+    model: &Model,
+) -> Result<Option<&'static str>, Refusal> {
+    for name in &NAMES {
+        if !is_alike(alloc, ended, model, name)? {
+            return Ok(Some(name));
+        }
+    }
+    Ok(None)
+}
+
+/// Whether the ended store shows all graphs, read together, as the plain model has them.
+fn are_alike(alloc: Global, ended: &mut Ended, model: &Model) -> Result<bool, Refusal> {
+    let text = model.quads(alloc, &NAMES)?;
+    let shown = read_all(alloc, ended)?;
+    Ok(text.as_slice() == shown.as_slice())
+}
+
+/// The page where it does not replay in the plain model, or the first graph, or all of them together, that
+/// the ended store shows otherwise than the model has them then.
+fn wrong_shown(alloc: Global, ended: &mut Ended) -> Result<Option<&'static str>, Refusal> {
+    let mut model = Model::new(alloc);
+    let is_replayed = replays(alloc, &mut model, ended.audited.page().entries());
+    let wrong = wrong_graph(alloc, ended, &model);
+    let are_alike = are_alike(alloc, ended, &model);
+    drop(model);
+    if !is_replayed? {
+        return Ok(Some("the page does not replay"));
+    }
+    if !are_alike? {
+        return Ok(Some("all graphs"));
+    }
+    wrong
+}
+
+/// Whether a pass was told of all its calls, and its receipts stand on the page.
+fn is_told(entries: &[Entry], record: &Record) -> bool {
+    record.calls() == 9_500 && record.receipts().len() == 4_096 && stands(entries, record)
+}
+
+/// The names of the four passes.
+const PASSES: [&str; 4] = ["pass 0", "pass 1", "pass 2", "pass 3"];
+
+/// What is wrong of the page that four threads leave, or of the store.
+fn wrong_part(alloc: Global, ended: &mut Ended) -> Result<Option<&'static str>, Refusal> {
+    let page = ended.audited.page();
+    if page.number() != 0 || page.entries().len() != 38_000 {
+        return Ok(Some("the page"));
+    }
+    if counts_of_all(page.entries()) != (4_000, 4_000) {
+        return Ok(Some("the questions about all graphs, or the reads of them"));
+    }
+    for (name, record) in PASSES.iter().zip(&ended.passes) {
+        if !is_told(page.entries(), record) {
+            return Ok(Some(name));
+        }
+    }
+    if is_replayed(alloc, page.entries().get(1..).unwrap_or_default())? {
+        return Ok(Some("the page replays without its first entry"));
+    }
+    wrong_shown(alloc, ended)
+}
+
+#[test]
+fn four_threads_leave_a_page_that_replays(rt: HostRuntime) -> Result<(), Fail> {
+    let (mut ended, fault) = worked(&rt, rt.alloc()).expect(&rt, "memory and threads");
+    let wrong = wrong_part(rt.alloc(), &mut ended);
+    drop(ended);
+    assert_eq!(rt; fault, None);
+    assert_eq!(rt; wrong?, None);
+    Ok(())
+}
