@@ -23,6 +23,8 @@ PROMISES = (
         (
             "gs_protocol_laws::writes_are_read_back",
             "gs_protocol_laws::gets_give_their_lines",
+            "gs_protocol_laws::all_graphs_are_read",
+            "gs_protocol_laws::lines_of_a_dataset_are_in_order",
             "gs_protocol_laws::given_up_uploads_leave_nothing",
             "gs_protocol_laws::only_writes_change",
             "gs_protocol_laws::statuses_tell_what_was_there",

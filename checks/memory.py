@@ -213,6 +213,13 @@ class Store:
         if not self.has_record(target):
             self.nodes.drop(None, 1)
 
+    def lines(self, scope):
+        """The lines of a graph, where it is there, or of all graphs."""
+        if scope == "all":
+            names = sorted(set(self.graphs) - {"default"})
+            return sorted(self.graphs["default"]) + [f"{line[:-1]}{name} ." for name in names for line in sorted(self.graphs[name])]
+        return sorted(self.graphs[scope]) if scope in self.graphs else None
+
     def may_want_memory(self, seat, words):
         phase = self.phases.get(seat, ("idle",))
         return {
@@ -340,13 +347,11 @@ class Store:
             return [self.patch(seat, "".join(line.split(" ", 2)[2:]))]
         if action == "delete":
             return [self.delete(words[2])]
-        if action == "head":
-            return ["200" if words[2] in self.graphs else "404"]
-        if action == "pin":
-            if words[2] not in self.graphs:
-                return ["404"]
-            self.phases[seat] = ("reading", sorted(self.graphs[words[2]]), self.commit)
-            return ["200"]
+        if action in ("head", "pin"):
+            lines = self.lines(words[2])
+            if action == "pin" and lines is not None:
+                self.phases[seat] = ("reading", lines, self.commit)
+            return ["404" if lines is None else "200"]
         if action == "piece":
             reported, left = phase[1][:int(words[2])], phase[1][int(words[2]):]
             self.phases[seat] = ("reading", left, phase[2]) if left else ("idle",)
@@ -357,7 +362,7 @@ class Store:
 
 def counted(schedule):
     """The schedule with the counts asked after each line, and at its end all seats cancelled, each graph that it names or makes
-    read whole, and all waste freed. The counts are asked twice where the schedule asks for them."""
+    read whole, and all of them, and all waste freed. The counts are asked twice where the schedule asks for them."""
     lines, seats = [], set()
     for line in schedule.split("\n"):
         words = line.split(" ")
@@ -368,7 +373,7 @@ def counted(schedule):
         seats |= {words[0]} if words[0].isdigit() else set()
     opens = schedule.count(" open ") if " open new" in schedule else 0
     made = {f"<http://localhost/graphs/n{request}-{k}>" for request in range(1, opens + 1) for k in (0, 1)}
-    targets = {"default"} | set(NAMED.findall(schedule)) | made
+    targets = {"default", "all"} | set(NAMED.findall(schedule)) | made
     ends = [f"{it} cancel" for it in sorted(seats | {"0"})]
     reads = [line for it in sorted(targets) for line in (f"0 pin {it}", f"0 piece {MOST_LINES}", "0 cancel")]
     for line in ends + reads + [f"reclaim {LAST_COUNT}"]:
@@ -445,7 +450,7 @@ def large():
 
 
 def worked_rows(crates):
-    tables = [("gs_schedules/src/rows.rt", "ROWS"), ("gs_schedules/src/patches.rt", "PATCHES"), ("gs_feed_tests/src/feeds.rt", "FEEDS"), ("gs_feed_tests/src/turtle.rt", "FEEDS")]
+    tables = [("gs_schedules/src/rows.rt", "ROWS"), ("gs_schedules/src/datasets.rt", "DATASETS"), ("gs_schedules/src/patches.rt", "PATCHES"), ("gs_feed_tests/src/feeds.rt", "FEEDS"), ("gs_feed_tests/src/turtle.rt", "FEEDS")]
     return [row for file, table in tables for row in worked_schedules(f"{crates}/{file}", table)]
 
 

@@ -14,6 +14,7 @@ from serving import Server
 
 TURTLE = "text/turtle"
 N_TRIPLES = "application/n-triples"
+N_QUADS = "application/n-quads"
 UPDATE = "application/sparql-update"
 GRAPH_METHODS = "GET, HEAD, PUT, POST, DELETE, PATCH"
 
@@ -57,7 +58,9 @@ CASES = [
     ("GET", "/graphs/a", [], None, 200, {}, X),
     # Targets and methods.
     ("OPTIONS", "/graphs/a", [], None, 405, {"allow": GRAPH_METHODS}, ""),
-    ("PUT", "/store", ["Content-Type: text/turtle"], TWO, 405, {"allow": "POST", "connection": "close"}, ""),
+    ("PUT", "/store", ["Content-Type: text/turtle"], TWO, 405, {"allow": "GET, HEAD, POST", "connection": "close"}, ""),
+    ("DELETE", "/store", [], None, 405, {"allow": "GET, HEAD, POST"}, ""),
+    ("GET", "/store", ["Accept: application/n-triples"], None, 406, {"content-length": "0"}, ""),
     ("GET", "/x", [], None, 404, {}, ""),
     ("GET", "/store?graph=x", [], None, 400, {}, ""),
     ("GET", "/store?other", [], None, 400, {}, ""),
@@ -66,8 +69,14 @@ CASES = [
     # The default graph is always there.
     ("PUT", "/store?default", ["Content-Type: application/n-triples"], Y, 204, {}, ""),
     ("GET", "/store?default=", [], None, 200, {}, Y),
+    # All graphs: the default graph first, then n1-0, which the first request made.
+    ("GET", "/store", [], None, 200, {"content-type": N_QUADS, "transfer-encoding": "chunked"}, Y + CLASS.replace(" .", " <http://localhost/graphs/n1-0> .")),
+    ("GET", "/store", ["Accept: application/n-quads"], None, 200, {"content-type": N_QUADS}, Y + CLASS.replace(" .", " <http://localhost/graphs/n1-0> .")),
+    ("HEAD", "/store", [], None, 200, {"content-type": N_QUADS}, ""),
+    ("DELETE", "/graphs/n1-0", [], None, 204, {}, ""),
     ("DELETE", "/store?default", [], None, 204, {}, ""),
     ("GET", "/store?default", [], None, 200, {}, ""),
+    ("GET", "/store", [], None, 200, {"content-type": N_QUADS}, ""),
 ]
 
 failures = []

@@ -104,6 +104,10 @@ def check_cases(front, alone):
     for method, target, fields, sent, code, wanted, body in server.CASES:
         name = f"{method} {target} {sent or ''}"
         got = ask(front, method, target, sent, fields)
+        if target == "/store" and method in ("GET", "HEAD"):
+            # three servers have no one moment, so the balancer reads no graphs of all
+            server.check(name, got[0], 405)
+            continue
         server.check(name, got[0::2], (code, body))
         wanted = {field: value for field, value in wanted.items() if field not in HOP_BY_HOP}
         server.check(name, {field: got[1].get(field) for field in wanted}, wanted)
