@@ -1,9 +1,8 @@
 //! Answers and what the model says of them, in words and compared.
 use crate::outcomes::Said;
-use crate::sections::quads_of;
-use crate::sets::Set;
 use gs_drawn_events::{TRIPLES, made_name, push_line};
 use gs_event::Answer;
+use gs_graph_models::{Set, quads_of};
 use gs_term::GraphName;
 use std::alloc::{AllocError, Global};
 

@@ -1,14 +1,11 @@
 //! What events do to graphs and versions.
-use crate::finds::edited;
-use crate::graphs::Graphs;
 use crate::outcomes::{Outcome, Said};
 use crate::phases::{Phase, Read, Turn, Upload};
 use crate::rules::Lie;
-use crate::sections::Cut;
-use crate::sets::Set;
 use crate::versions::{Pins, Versions};
 use gs_drawn_events::{Edit, Kind, Place, Scope};
 use gs_event::Limits;
+use gs_graph_models::{Cut, Graphs, Set, edited};
 use std::alloc::{AllocError, Global};
 
 /// Graphs, versions that ended, and numbers of requests and commits.

@@ -4,15 +4,10 @@
 
 mod answers;
 mod books;
-mod finds;
-mod graphs;
 mod models;
-mod names;
 mod outcomes;
 mod phases;
 mod rules;
-mod sections;
-mod sets;
 mod versions;
 
 pub use answers::{answer_words, is_said, is_same, said_words};

@@ -3,10 +3,10 @@ use crate::books::Books;
 use crate::outcomes::{Outcome, Said};
 use crate::phases::{Phase, Read, Turn, Upload};
 use crate::rules::Lie;
-use crate::sets::Set;
 use crate::versions::{Pins, SEATS};
 use gs_drawn_events::{Ask, Place};
 use gs_event::Limits;
+use gs_graph_models::Set;
 use gs_model::Refusal;
 use std::alloc::{AllocError, Global};
 

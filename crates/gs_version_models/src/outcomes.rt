@@ -1,7 +1,6 @@
 //! What the model says of an event: the answer, how many more or fewer nodes and records are in use then, and
 //! how many become waste that no version reached.
-use crate::sections::Section;
-use crate::sets::Set;
+use gs_graph_models::{Section, Set};
 use gs_model::Refusal;
 
 /// The most nodes that a triple takes where it comes to a graph or goes from it.

@@ -1,7 +1,7 @@
 //! What the seats of the model do.
 use crate::outcomes::{Outcome, Said};
-use crate::sets::Set;
 use gs_drawn_events::{Kind, Place, Scope};
+use gs_graph_models::Set;
 use gs_model::Refusal;
 
 /// An upload.

@@ -1,11 +1,10 @@
 //! What the model knows of a connection: its requests, how much of them came, and what its turns have
 //! seen since its last text.
-use crate::datasets::{Dataset, Effect};
-use crate::dues::{Due, Reply};
 use crate::findings::Kind;
-use crate::replies::{push_look, push_read, read_status, read_turns};
-use crate::rules::{Lie, Rules};
 use gs_drawn_requests::{Deed, Request, Write};
+use gs_world_models::{
+    Dataset, Due, Effect, Lie, Reply, Rules, push_look, push_read, read_status, read_turns,
+};
 use std::alloc::{AllocError, Global};
 
 /// What was seen about a turn that wrote nothing.

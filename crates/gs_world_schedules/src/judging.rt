@@ -1,14 +1,12 @@
 //! A world whose steps are judged by the model, one after another.
 use crate::clients::{Client, found};
-use crate::datasets::Dataset;
-use crate::dues::Due;
 use crate::findings::{Kind, Moment, Stop};
-use crate::rules::{Lie, Rules};
 use crate::totals::{Happening, Totals};
 use crate::witnesses::{Sight, Witness};
 use gs_core::Refusal;
 use gs_drawn_requests::{Deed, Request, Write};
 use gs_world::{World, WorldStep};
+use gs_world_models::{Dataset, Due, Lie, Rules};
 use std::alloc::{AllocError, Global};
 
 const BASE: &str = "http://localhost";

@@ -3,21 +3,17 @@
 #![tactic(auto)]
 
 mod clients;
-mod datasets;
-mod dues;
 mod findings;
 mod judging;
 mod plays;
-mod replies;
-mod rules;
 mod totals;
 mod wires;
 mod witnesses;
 
 use crate::findings::Stop;
 use crate::plays::play_schedule;
-use crate::rules::Lie;
 use crate::totals::Totals;
+use gs_world_models::Lie;
 use std::alloc::Global;
 use std::io::{self, Write};
 

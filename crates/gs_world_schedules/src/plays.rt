@@ -1,12 +1,12 @@
 //! One schedule, drawn step by step.
 use crate::findings::Stop;
 use crate::judging::Judge;
-use crate::rules::{Lie, Rules};
 use crate::totals::{Happening, Totals};
 use crate::wires::Wire;
 use gs_core::Refusal;
 use gs_drawn_requests::Draws;
 use gs_world::WorldStep;
+use gs_world_models::{Lie, Rules};
 use std::alloc::Global;
 
 /// The steps of a schedule.

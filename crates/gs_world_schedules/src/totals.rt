@@ -1,6 +1,6 @@
 //! What was done and seen over all schedules.
-use crate::dues::Reply;
 use gs_drawn_requests::{Deed, Method, Request};
+use gs_world_models::Reply;
 use std::io::{self, Write};
 
 const STATUSES: usize = 12;

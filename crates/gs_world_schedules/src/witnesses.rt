@@ -1,9 +1,7 @@
 //! A connection that reads each graph, and all together, between the steps of the others.
-use crate::datasets::{Dataset, Shown};
-use crate::replies::{push_read, read_turns};
-use crate::rules::Rules;
 use gs_core::Refusal;
 use gs_world::{World, WorldStep};
+use gs_world_models::{Dataset, Rules, Shown, push_read, read_turns};
 use std::alloc::AllocError;
 
 /// A read of each graph, and one of all.
