@@ -1,5 +1,5 @@
--- What a catalogue has: a version of the default graph, and one for each of finitely many names.
-use Rattle.std.specs.Prelude.{ℕ, ◌+◌, ◌-◌, List, Option, Some, None, is_some, if◌then◌else◌}
+-- The versions of all graphs: that of the default graph, and one for each of finitely many names.
+use Rattle.std.specs.Prelude.{ℕ, ◌+◌, List, Option, Some, None}
 use Rattle.std.specs.List.{sum_by}
 use Rattle.std.specs.FinMap as map
 use Rattle.gs_term.specs.declared.names.Target.{Target}
@@ -41,23 +41,3 @@ name_count g = map.len g.named
 -- how many triples all graphs have, by the count of each version
 abbrev pub triple_count : GraphVersions → ℕ
 triple_count g = g.unnamed.triples + sum_by (λ e. e.1.triples) (map.entries g.named)
-
--- the versions, and how many names more fit without an allocation
-pub record Catalogued : Type 0 where
-  pub graphs : GraphVersions
-  pub spare : ℕ
-
--- the room that a version for this target wants: that of one name, where the target is a name that is not there
-abbrev pub room_wanted : GraphVersions → Target → ℕ
-room_wanted g t = if is_some (version_at g t) then 0 else 1
-
--- the catalogue with this version for the target, which wants no more room than there is
-abbrev pub after_set : Catalogued → Target → GraphVersion → Catalogued
-after_set c t v = record { graphs = with_version c.graphs t v; spare = c.spare - room_wanted c.graphs t }
-
--- the catalogue without this name, which leaves its room if it was there
-abbrev pub after_take : Catalogued → List ℕ → Catalogued
-after_take c name = record {
-  graphs = without_name c.graphs name;
-  spare = c.spare + (if is_some (map.get c.graphs.named name) then 1 else 0);
-}

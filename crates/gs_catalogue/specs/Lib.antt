@@ -1,4 +1,2 @@
--- Read `Catalogues` for what a catalogue has; the other two are how it is stored and kept.
+-- Read `Catalogues` for the versions of all graphs.
 pub mod Catalogues
-pub mod Codes
-pub mod Entries

@@ -1,9 +1,6 @@
-//! Names of graphs, each with the version of its graph: the root of a tree, and a count.
+//! A version of a graph, the root of a tree and a count; and which version each graph has.
 #![tactic(auto)]
 
-mod catalogues;
-mod entries;
 mod versions;
 
-pub use catalogues::Catalogue;
 pub use versions::GraphVersion;

@@ -2,8 +2,8 @@
 ghost use Rattle.std.specs.Prelude.{◌≡◌};
 ghost use Rattle.gs_catalogue.specs.Catalogues.{empty_version};
 
-/// A version of a graph: the root of its tree, and how many triples it has. A catalogue keeps both
-/// and reads no tree.
+/// A version of a graph: the root of its tree, and how many triples it has. That the tree has as many is
+/// for the store to see to.
 #[derive(Clone, Copy, Debug, PartialEq, Eq)]
 pub struct GraphVersion {
     pub root: Option<u32>,

@@ -1,4 +1,5 @@
 pub mod Values
+pub mod Entries
 pub mod Parting
 pub mod Outlasting
 pub mod Sizes

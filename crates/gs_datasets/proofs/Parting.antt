@@ -1,7 +1,7 @@
--- The versions of a catalogue, parted at a target.
-use Rattle.std.proofs.Common.{◌≡◌, ℕ, Bool, true, false, cond, not, T, ◌&&◌, List, [], ◌∷◌, ◌++◌, map, Option, Some, None, refl, sym, ap, subst, ◌∙◌}
+-- The versions of all graphs, parted at a target.
+use Rattle.std.proofs.Common.{◌≡◌, cond, not, T, List, [], ◌∷◌, ◌++◌, map, Option, Some, None, refl, sym, ap, subst, ◌∙◌}
 use Rattle.std.specs.List.{All, cons_option}
-use Rattle.std.specs.Ordering.{eq_by_cmp, is_eq, ordering_reverse}
+use Rattle.std.specs.Ordering.{eq_by_cmp, is_eq}
 use Rattle.std.specs.Cmp.{IsTotalOrder}
 use Rattle.std.specs.FinMap as fin
 use Rattle.std.specs.FinMap.Entries.{put, find, where_key, is_sorted, by_order}
@@ -14,17 +14,9 @@ use Rattle.gs_term.specs.Names.{name_cmp}
 use Rattle.gs_term.proofs.NameLemmas.{name_total}
 use Rattle.gs_catalogue.specs.declared.versions.GraphVersion.{GraphVersion}
 use Rattle.gs_catalogue.specs.Catalogues.{GraphVersions, version_at, with_version}
-use Rattle.gs_catalogue.proofs.CatalogueLemmas.{map_of, entries-map_of, map_of-without_entry, without_entry-sorted}
-use Rattle.gs_catalogue.proofs.EntryLemmas.{AreGreater, find-before, without-before, greater_after}
 use Rattle.gs_ledger.proofs.Sums.{all_front, all_back}
 use Rattle.gs_datasets.specs.Standing.{all_versions, other_versions}
-
-later_sorted : (a b : Bool) → T (a && b) → T b
-later_sorted true b h = h
-later_sorted false b h = absurd h
-
-turned : {K : Type 0} {R : K → K → Ordering} → IsTotalOrder R → (x y : K) (r : Ordering) → R x y ≡ r → R y x ≡ ordering_reverse r
-turned o x y r is = o.antisymm y x ∙ ap ordering_reverse is
+use Rattle.gs_datasets.proofs.Entries.{both_second, turned, AreGreater, find-greater, without-greater, greater_after, entries-remove}
 
 module _ {K X : Type 0} (R : K → K → Ordering) where
   -- The values of entries, parted at a key: those before it, that of the key, where it is there, and those after it. Without the key its value is out, and a new one goes where it was.
@@ -47,28 +39,28 @@ module _ {K X : Type 0} (R : K → K → Ordering) where
 
     pub parted_at : (k : K) (es : List (K × X)) → T (is_sorted R es) → PartedAt k es
     parted_at k [] h = record { before = []; after = []; whole = refl; taken = refl; put_in = λ v. refl }
-    parted_at k (e ∷ es) h = by_answer (R k e.0) refl (parted_at k es (later_sorted _ _ h))
+    parted_at k (e ∷ es) h = by_answer (R k e.0) refl (parted_at k es (both_second _ _ h))
       where
         less : List (K × X)
         less = where_key R (λ x. not (eq_by_cmp R k x)) es
 
         by_answer : (r : Ordering) → R k e.0 ≡ r → PartedAt k es → PartedAt k (e ∷ es)
         by_answer Less is rest =
-            let greater : AreGreater R o k (e ∷ es) = (turned o k e.0 Less is, greater_later k e.0 es is (greater_after R o [] es e h)) in
+            let greater : AreGreater R o k (e ∷ es) = (turned o k e.0 Less is, greater_later k e.0 es is (greater_after R o e es h)) in
             record {
               before = [];
               after = map (λ d. d.1) (e ∷ es);
-              whole = ap (λ u. cons_option u (map (λ d. d.1) (e ∷ es))) (sym (find-before R o k (e ∷ es) greater));
-              taken = ap (map (λ d. d.1)) (without-before R o k (e ∷ es) greater);
+              whole = ap (λ u. cons_option u (map (λ d. d.1) (e ∷ es))) (sym (find-greater R o k (e ∷ es) greater));
+              taken = ap (map (λ d. d.1)) (without-greater R o k (e ∷ es) greater);
               put_in = λ v. ap (λ r. map (λ d. d.1) (by_order r ((k, v) ∷ e ∷ es) ((e.0, v) ∷ es) (e ∷ put R k v es))) is;
             }
         by_answer Equal is rest =
-            let greater = greater_tied k e.0 es is (greater_after R o [] es e h) in
+            let greater = greater_tied k e.0 es is (greater_after R o e es h) in
             record {
               before = [];
               after = map (λ d. d.1) es;
               whole = ap (λ r. cons_option (cond (is_eq r) (Some e.1) (find R k es)) (map (λ d. d.1) es)) (sym is);
-              taken = ap (λ r. map (λ d. d.1) (cond (not (is_eq r)) (e ∷ less) less)) is ∙ ap (map (λ d. d.1)) (without-before R o k es greater);
+              taken = ap (λ r. map (λ d. d.1) (cond (not (is_eq r)) (e ∷ less) less)) is ∙ ap (map (λ d. d.1)) (without-greater R o k es greater);
               put_in = λ v. ap (λ r. map (λ d. d.1) (by_order r ((k, v) ∷ e ∷ es) ((e.0, v) ∷ es) (e ∷ put R k v es))) is;
             }
         by_answer Greater is rest =
@@ -80,21 +72,7 @@ module _ {K X : Type 0} (R : K → K → Ordering) where
               put_in = λ v. ap (λ r. map (λ d. d.1) (by_order r ((k, v) ∷ e ∷ es) ((e.0, v) ∷ es) (e ∷ put R k v es))) is ∙ ap (λ xs. e.1 ∷ xs) (rest.put_in v);
             }
 
-test_of : (b : Bool) → T b → b ≡ true
-test_of true h = refl
-test_of false h = absurd h
-
--- the entries of a catalogue without a name
-entries-remove : (m : fin.FinMap name_cmp GraphVersion) (n : List ℕ) → fin.entries (fin.remove m n) ≡ where_key name_cmp (λ x. not (eq_by_cmp name_cmp n x)) (fin.entries m)
-entries-remove m n =
-    let es = fin.entries m in
-    let sorted = test_of (is_sorted name_cmp es) (fin.entries_sorted m) in
-    let same : map_of es ≡ m = fin.same_entries_map (map_of es) m (entries-map_of es sorted) in
-    ap (λ d. fin.entries (fin.remove d n)) (sym same)
-    ∙ ap fin.entries (sym (map_of-without_entry es n sorted))
-    ∙ entries-map_of _ (without_entry-sorted es n sorted)
-
--- the versions of a catalogue, parted at a target: the others, and all, where the target's is another
+-- the versions of all graphs, parted at a target: the others, and all, where the target's is another
 pub record Parted (g : GraphVersions) (t : Target) : Type 0 where
   pub before : List GraphVersion
   pub after : List GraphVersion

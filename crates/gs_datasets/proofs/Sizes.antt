@@ -82,7 +82,7 @@ module _ (terms : List Term) (p : Nodes) where
   empty_is : IsVersion terms p empty_version
   empty_is = record { root_is = refl; keyed = record { balanced = tt; rising = tt; given = tt }; counted = refl }
 
-  -- a new catalogue stands for the empty dataset
+  -- the versions of a new store stand for the empty dataset
   pub none_at_all : IsEmpty terms p
   none_at_all =
       let P = IsVersion terms p in

@@ -1,4 +1,4 @@
--- The versions of a catalogue stand for a dataset: the statements of laws.
+-- The versions of all graphs stand for a dataset: the statements of laws.
 use Rattle.std.specs.Prelude.{◌≡◌, List, is_some}
 use Rattle.std.specs.Option.{option_map}
 use Rattle.std.specs.List.{All}
@@ -29,7 +29,7 @@ TriplesAreCounted = (terms : List Term) (p : Nodes) (g : GraphVersions) → All 
 abbrev pub NamesAreCounted : Type 0
 NamesAreCounted = (terms : List Term) (p : Nodes) (g : GraphVersions) → names_in (dataset_at terms p g) ≡ name_count g
 
--- the versions of a new catalogue stand for the empty dataset, and are versions
+-- the versions of a new store stand for the empty dataset, and are versions
 pub record IsEmpty (terms : List Term) (p : Nodes) : Type 0 where
   pub dataset : dataset_at terms p no_versions ≡ empty_dataset
   pub versions : All (IsVersion terms p) (all_versions no_versions)

@@ -1,4 +1,4 @@
--- What the versions of a catalogue stand for, over the terms of a dictionary and a pool of nodes: a dataset, and the trees of its graphs.
+-- What the versions of all graphs stand for, over the terms of a dictionary and a pool of nodes: a dataset, and the trees of its graphs.
 use Rattle.std.specs.Prelude.{◌≡◌, ℕ, List, ◌∷◌, length, map as map_each}
 use Rattle.std.specs.Option.{option_map, unwrap_or}
 use Rattle.std.specs.List.{All}

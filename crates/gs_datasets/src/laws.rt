@@ -5,7 +5,7 @@ ghost use Rattle.gs_datasets.specs.Writes.{OneIsSet, NameIsTaken, AllStay, OneIs
 ghost use Rattle.gs_datasets.specs.Trees.{LedgerKeeps, LedgerHasSets, OthersStay, OthersStayBeside};
 ghost use Rattle.gs_datasets.specs.Trees.{GraphsStay, PlaceIsEmptied, PlaceIsFilled, KeysOutlast};
 
-/// The versions of a catalogue stand for a dataset: its graphs, its sizes and its names are theirs.
+/// The versions of all graphs stand for a dataset: its graphs, its sizes and its names are theirs.
 pub fn versions_stand_for_a_dataset()
     ensures at { GraphsAreOfVersions }
     ensures there { NoneIsMissing }

@@ -1,4 +1,4 @@
-//! What the versions of a catalogue stand for: a dataset, and the trees of its graphs.
+//! What the versions of all graphs stand for: a dataset, and the trees of its graphs.
 #![tactic(auto)]
 
 mod laws;

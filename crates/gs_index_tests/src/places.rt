@@ -1,17 +1,23 @@
-//! Entries of names that are a prefix of another: the bracket after a name is compared too.
+//! Entries of names that are a prefix of another, or longer and yet before it: bytes are compared, that of the
+//! bracket after a name too.
 use crate::entries::{are_next, list_next};
 use gs_index::Index;
 use gs_model::Refusal;
 use std::alloc::Global;
 
 /// Names and births, in the order in which they are listed: their numbers go from 0.
-const LISTED: [(&str, u64); 6] = [
+const LISTED: [(&str, u64); 11] = [
     ("http://e/ga", 1),
     ("http://e/g", 2),
     ("http://e/g/1", 3),
     ("", 4),
     ("http://e/g?", 5),
     ("http://e/g", 6),
+    ("e:b", 7),
+    ("e:\u{E9}", 8),
+    ("E:a", 9),
+    ("e:aaaaaaaa", 10),
+    ("e:\u{E8}", 11),
 ];
 
 /// Lists them all: whether each is listed.
@@ -25,10 +31,11 @@ fn all_listed(alloc: Global, index: &mut Index) -> Result<bool, Refusal> {
 }
 
 /// Where a walk begins, how many numbers it may give, and which they are.
-const WALKS: [(Option<u32>, usize, &[u32]); 6] = [
-    (None, 9, &[3, 2, 5, 1, 4, 0]),
+const WALKS: [(Option<u32>, usize, &[u32]); 7] = [
+    (None, 99, &[3, 8, 9, 6, 10, 7, 2, 5, 1, 4, 0]),
     (None, 0, &[]),
-    (None, 2, &[3, 2]),
+    (None, 2, &[3, 8]),
+    (Some(8), 4, &[9, 6, 10, 7]),
     (Some(2), 2, &[5, 1]),
     (Some(1), 9, &[4, 0]),
     (Some(0), 9, &[]),

@@ -3,13 +3,12 @@ use Rattle.std.proofs.Common.{◌≡◌, ◌≢◌, ℕ, ◌<◌, Bool, true, fa
 use Rattle.std.proofs.lemmas.Bool.{cases_eq, lt-leb}
 use Rattle.gs_term.specs.declared.names.Target.{Target}
 use Rattle.gs_catalogue.specs.declared.versions.GraphVersion.{GraphVersion}
-use Rattle.gs_index.specs.declared.entries.Entry.{Entry}
 use Rattle.gs_index.specs.Ages.{age_of}
-use Rattle.gs_records.specs.Records.{Record, free, opened, unused, kept, Recorded, record_at, has_at, is_kept, ended_entry, ended}
+use Rattle.gs_records.specs.Records.{Record, free, opened, unused, kept, Recorded, record_at, has_at, is_kept, ended}
 use Rattle.gs_records.specs.Order.{entry_of}
 use Rattle.gs_records.specs.Calls.{made_record, is_nothing, placed}
 use Rattle.gs_records.specs.Reclaims.{IsUnneeded, StaysOrGoes}
-use Rattle.gs_records.proofs.Lifetimes.{EndedCases, ends, stays, ended_cases, target-ended, version-ended, has-ended}
+use Rattle.gs_records.proofs.Lifetimes.{target-ended, version-ended, birth-ended, has-ended}
 use Rattle.gs_records.proofs.Dropping.{unneeded_had}
 use Rattle.gs_quads.specs.Laws.{HasSame, CallsKeep}
 
@@ -46,14 +45,6 @@ neither v old new before after = record {
   graph = λ has. absurd (true≢false (sym has ∙ before));
   age = λ has. absurd (true≢false (sym has ∙ before));
 }
-
--- an entry keeps its birth where it ends
-birth-ended : (t : Target) (death : ℕ) (e : Entry) → (ended_entry t death e).birth ≡ e.birth
-birth-ended t death e = go (ended_cases t death e)
-  where
-    go : EndedCases t death e → (ended_entry t death e).birth ≡ e.birth
-    go (ends s n is) = ap (λ (x : Entry). x.birth) is
-    go (stays h is) = ap (λ (x : Entry). x.birth) is
 
 -- what ends at a later commit
 ended_later : (v : ℕ) (t : Target) (death : ℕ) (r : Record) → v < death → IsSameTo v r (ended t death r)

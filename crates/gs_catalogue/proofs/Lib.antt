@@ -1,3 +1,0 @@
-pub mod EntryLemmas
-pub mod PlaceLemmas
-pub mod CatalogueLemmas
