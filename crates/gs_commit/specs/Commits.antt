@@ -4,7 +4,7 @@ use Rattle.gs_pool.specs.Pool.{Nodes, aside_count}
 use Rattle.gs_tree.specs.Tree.{Tree, keys, occurrences, tree_at}
 use Rattle.gs_tree.specs.Steps.{Step}
 use Rattle.gs_versions.specs.Pins.{Pins}
-use Rattle.gs_event.specs.Steps.{Joins, IsUnreached, EndsAt}
+use Rattle.gs_event.specs.Wasting.{Joins, IsUnreached, EndsAt}
 use Rattle.gs_ledger.specs.Marks.{dead_at, waste_at}
 use Rattle.gs_ledger.specs.Ledger.{IsTreeOf, IsLedger}
 

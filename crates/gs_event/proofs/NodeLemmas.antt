@@ -1,12 +1,11 @@
 -- How many nodes a step takes into use, at most.
-use Rattle.std.proofs.Common.{◌≡◌, ℕ, ◌+◌, ◌≤◌, Bool, true, false, cond, nat_eq, List, [], ◌∷◌, length, drop, get_or, Option, Some, None, MatchOption, is_some, refl, sym, ap, ◌∙◌, subst, arith}
+use Rattle.std.proofs.Common.{◌≡◌, ℕ, ◌+◌, ◌≤◌, Bool, true, false, cond, nat_eq, List, [], ◌∷◌, length, drop, get_or, Option, Some, None, MatchOption, is_some, refl, sym, ap, ◌∙◌, arith}
 use Rattle.std.specs.List.{sum_by, slice_get, slice_set}
 use Rattle.std.proofs.lemmas.List.{length-map}
 use Rattle.std.proofs.lemmas.List.Sums.{sum_by-cons, sum_by-set}
 use Rattle.std.proofs.lemmas.Option.{slice_get_within, get_or_from_slice_get}
 use Rattle.gs_model.specs.Triples.{line_of}
 use Rattle.gs_model.specs.Graphs.{Graph, triples_of, size_of}
-use Rattle.gs_model.specs.declared.refusals.Refusal.{Refusal}
 use Rattle.gs_model.specs.declared.refusals.Refusal.TheVariants.{BadSeat}
 use Rattle.gs_model.proofs.GraphLemmas.{empty_has_none}
 use Rattle.gs_term.specs.declared.names.Target.{Target}
@@ -21,13 +20,15 @@ use Rattle.gs_event.specs.declared.answers.Answer.{Answer}
 use Rattle.gs_event.specs.declared.answers.Answer.TheVariants.{Opened, Staged, Status, Pinned, Lines, Cancelled, Reclaimed, Refused}
 use Rattle.gs_event.specs.declared.updates.Op.{Op}
 use Rattle.gs_event.specs.Updates.{updated, patched}
-use Rattle.gs_event.specs.Datasets.{Dataset, graph_at, is_there, lines_if, lines_at, lines_in, with_graph, without_graph, kept_in, records_at, unused_for}
+use Rattle.gs_event.specs.Datasets.{Dataset, graph_at, is_there, lines_if, lines_at, lines_in, with_graph, without_graph, kept_in}
 use Rattle.gs_event.specs.Names.{new_name}
-use Rattle.gs_event.specs.Operations.{Setting, is_within, united, stored, stored_status, after, status_of, is_success}
+use Rattle.gs_event.specs.Operations.{Setting, Patches, Deletes, is_within, united, stored, stored_status, after, status_of, is_success}
+use Rattle.gs_event.specs.Conditions.{asked_since, is_late, status_if, after_if, done_by}
 use Rattle.gs_event.specs.Phases.{Idle, Writing, Patching, Reading, write_of}
-use Rattle.gs_event.specs.Views.{Totals, View, SeatView, FitsSeat, next_totals, next_phase, next_if}
+use Rattle.gs_event.specs.Views.{Totals, state_of, View, SeatView, FitsSeat, next_totals, next_phase, next_if}
 use Rattle.gs_event.specs.Waste.{Lifetime, Shown, held_at, held_in, nodes_in}
-use Rattle.gs_event.specs.Steps.{Joins, UploadNodes, UploadRecords, UpdateNodes, CommitRecords, UpdateRecords, DeleteNodes, DeleteRecords, most_patched, WastesBoth, WastesIf, Frees}
+use Rattle.gs_event.specs.Wasting.{Joins, UploadNodes, UploadRecords, UpdateNodes, CommitRecords, UpdateRecords, DeleteNodes, DeleteRecords, most_patched, WastesBoth, WastesIf}
+use Rattle.gs_event.specs.Steps.{Frees}
 use Rattle.gs_event.specs.NodesInUse.{most_for_upload, most_for_update, most_taken_at, most_taken_if, TakesFew, GivesBack}
 use Rattle.gs_event.proofs.DatasetLemmas.{kept_in-with_graph, kept_in-without_graph}
 use Rattle.gs_event.proofs.SizeLemmas.{adds_up, graph_few, listed_few, united_few}
@@ -85,8 +86,7 @@ uploaded v New r g s true old mid new well status w x =
       kept_in-with_graph v.dataset t g,
       joined _ _ old w.between w.unused,
       joined _ _ w.between mid w.replaced,
-      joined _ _ mid x.between x.unused,
-      joined _ _ x.between new x.replaced,
+      joined _ _ mid new x,
     )
 uploaded v (Put t) r g s false old mid new fails status w x =
     omega (arith, ap kept_in (stored_not v.setting v.dataset t g s fails status), joined _ _ old mid w, joined _ _ mid new x)
@@ -134,6 +134,62 @@ deleted v t s true false old mid new is fails status w x = absurd (let no : fals
 deleted v t s false true old mid new is well status w x = absurd (let no : false ≡ true = sym (ap is_success status) ∙ well in cc)
 deleted v t s false false old mid new is fails status w x = omega (arith, ap length w, ap length x)
 
+-- a write that comes too late has no status of success
+late_fails : (s : ℕ) → s ≡ 412 → is_success s ≡ true → false ≡ true
+late_fails s late well = sym (ap is_success late) ∙ well
+
+-- an upload that comes too late
+upload_late : (v : Totals) (k : UploadKind) (g : Graph) (s : ℕ) (done : Bool) (old mid new : List Lifetime) → is_success s ≡ done → s ≡ 412 → UploadNodes v k g done old mid → UploadRecords v k g done mid new
+    → kept_in v.dataset + 0 + length new ≤ kept_in v.dataset + (size_of g + 1) + length old + cond done (most_for_upload k g) 0
+upload_late v k g s true old mid new well late w x = absurd (let no : false ≡ true = late_fails s late well in cc)
+upload_late v (Put t) g s false old mid new well late w x = omega (arith, joined _ _ old mid w, joined _ _ mid new x)
+upload_late v (Post t) g s false old mid new well late w x = omega (arith, joined _ _ old mid w, joined _ _ mid new x)
+upload_late v New g s false old mid new well late w x = omega (arith, joined _ _ old mid w, joined _ _ mid new x)
+
+-- an upload, too late or not
+uploaded_if : (v : Totals) (k : UploadKind) (r : ℕ) (g : Graph) (since : Option ℕ) (s : ℕ) (old mid new : List Lifetime) → s ≡ status_if v.setting (state_of v) (asked_since since (write_of k r g)) → UploadNodes v k g (is_success s) old mid
+    → UploadRecords v k g (is_success s) mid new
+    → kept_in (after_if v.setting (state_of v) (asked_since since (write_of k r g))).dataset + 0 + length new ≤ kept_in v.dataset + (size_of g + 1) + length old + cond (is_success s) (most_for_upload k g) 0
+uploaded_if v k r g since s old mid new status w x =
+    elim (is_late (state_of v) since (write_of k r g)) as (λ b. s ≡ cond b 412 (status_of v.setting v.dataset (write_of k r g))
+    → kept_in (cond b (state_of v) (done_by v.setting (state_of v) (write_of k r g))).dataset + 0 + length new ≤ kept_in v.dataset + (size_of g + 1) + length old + cond (is_success s) (most_for_upload k g) 0) [
+      | true ↦ λ e. upload_late v k g s (is_success s) old mid new refl e w x
+      | false ↦ λ e. uploaded v k r g s (is_success s) old mid new refl e w x
+    ] status
+
+-- an update that comes too late
+update_late : (v : Totals) (t : Target) (ops : List Op) (s : ℕ) (done : Bool) (old mid new : List Lifetime) → is_success s ≡ done → s ≡ 412 → UpdateNodes v t ops done old mid → UpdateRecords v t ops done mid new
+    → kept_in v.dataset + 0 + length new ≤ kept_in v.dataset + 1 + length old + cond done (most_for_update (graph_at v.dataset t) ops) 0
+update_late v t ops s true old mid new well late w x = absurd (let no : false ≡ true = late_fails s late well in cc)
+update_late v t ops s false old mid new well late w x = omega (arith, ap length w, joined _ _ mid new x)
+
+-- an update, too late or not
+updated_if : (v : Totals) (t : Target) (ops : List Op) (since : Option ℕ) (s : ℕ) (old mid new : List Lifetime) → s ≡ status_if v.setting (state_of v) (asked_since since (Patches t ops)) → UpdateNodes v t ops (is_success s) old mid
+    → UpdateRecords v t ops (is_success s) mid new
+    → kept_in (after_if v.setting (state_of v) (asked_since since (Patches t ops))).dataset + 0 + length new ≤ kept_in v.dataset + 1 + length old + cond (is_success s) (most_for_update (graph_at v.dataset t) ops) 0
+updated_if v t ops since s old mid new status w x =
+    elim (is_late (state_of v) since (Patches t ops)) as (λ b. s ≡ cond b 412 (status_of v.setting v.dataset (Patches t ops))
+    → kept_in (cond b (state_of v) (done_by v.setting (state_of v) (Patches t ops))).dataset + 0 + length new ≤ kept_in v.dataset + 1 + length old + cond (is_success s) (most_for_update (graph_at v.dataset t) ops) 0) [
+      | true ↦ λ e. update_late v t ops s (is_success s) old mid new refl e w x
+      | false ↦ λ e. updated_few v t ops s (is_success s) old mid new refl e w x
+    ] status
+
+-- a DELETE that comes too late
+delete_late : (v : Totals) (t : Target) (s : ℕ) (done : Bool) (old mid new : List Lifetime) → is_success s ≡ done → s ≡ 412 → DeleteNodes v t done old mid → DeleteRecords v t done mid new
+    → kept_in v.dataset + 0 + length new ≤ kept_in v.dataset + 0 + length old + 0
+delete_late v t s true old mid new well late w x = absurd (let no : false ≡ true = late_fails s late well in cc)
+delete_late v t s false old mid new well late w x = omega (arith, ap length w, ap length x)
+
+-- a DELETE, too late or not
+deleted_if : (v : Totals) (t : Target) (since : Option ℕ) (s : ℕ) (old mid new : List Lifetime) → s ≡ status_if v.setting (state_of v) (asked_since since (Deletes t)) → DeleteNodes v t (is_success s) old mid → DeleteRecords v t (is_success s) mid new
+    → kept_in (after_if v.setting (state_of v) (asked_since since (Deletes t))).dataset + 0 + length new ≤ kept_in v.dataset + 0 + length old + 0
+deleted_if v t since s old mid new status w x =
+    elim (is_late (state_of v) since (Deletes t)) as (λ b. s ≡ cond b 412 (status_of v.setting v.dataset (Deletes t))
+    → kept_in (cond b (state_of v) (done_by v.setting (state_of v) (Deletes t))).dataset + 0 + length new ≤ kept_in v.dataset + 0 + length old + 0) [
+      | true ↦ λ e. delete_late v t s (is_success s) old mid new refl e w x
+      | false ↦ λ e. deleted v t s (is_there v.dataset t) (is_success s) old mid new refl refl e w x
+    ] status
+
 unchanged : (n : ℕ) (old mid new : List Lifetime) → mid ≡ old → new ≡ mid → n + length new ≤ n + length old + 0
 unchanged n old mid new w x = omega (arith, ap length w, ap length x)
 
@@ -149,28 +205,28 @@ piece_stages false left = refl
 -- the current graphs, the seat's upload and the waste have no more nodes together
 taken_at : (v : Totals) (p : SeatView) (action : Action) (a : Answer) (old new : List Lifetime) → FitsSeat v p action a → WastesBoth v p action a old new
     → kept_in (next_totals v p action a).dataset + held_at (next_phase v p action a) + length new ≤ kept_in v.dataset + held_at p + length old + most_taken_at v.dataset p action a
-taken_at v Idle (Open k) (Opened r) old new fits w = omega (arith, empty_has_none, ap length w.nodes, ap length w.records)
-taken_at v Idle (OpenPatch t) (Opened r) old new fits w = omega (arith, ap length w.nodes, ap length w.records)
-taken_at v Idle (Delete t) (Status s name) old new fits w = deleted v t s (is_there v.dataset t) (is_success s) old w.between new refl refl fits.0 w.nodes w.records
-taken_at v Idle (Head t) (Status s name) old new fits w = unchanged (kept_in v.dataset + 0) old w.between new w.nodes w.records
-taken_at v Idle (Pin t) (Pinned s) old new fits w = omega (arith, pin_stages (nat_eq s 200) (lines_in v.dataset t), ap length w.nodes, ap length w.records)
-taken_at v Idle Commit (Status s name) old new fits w = absurd fits
-taken_at v Idle (CommitPatch ops) (Status s name) old new fits w = absurd fits
+taken_at v Idle (Open k since) (Opened r) old new fits w = omega (arith, empty_has_none, ap length w.nodes, ap length w.records)
+taken_at v Idle (OpenPatch t since) (Opened r) old new fits w = omega (arith, ap length w.nodes, ap length w.records)
+taken_at v Idle (Delete t since) (Status s name number) old new fits w = deleted_if v t since s old w.between new fits.0 w.nodes w.records
+taken_at v Idle (Head t) (Status s name number) old new fits w = unchanged (kept_in v.dataset + 0) old w.between new w.nodes w.records
+taken_at v Idle (Pin t) (Pinned s number) old new fits w = omega (arith, pin_stages (nat_eq s 200) (lines_in v.dataset t), ap length w.nodes, ap length w.records)
+taken_at v Idle Commit (Status s name number) old new fits w = absurd fits
+taken_at v Idle (CommitPatch ops) (Status s name number) old new fits w = absurd fits
 taken_at v Idle Cancel Cancelled old new fits w = absurd fits
-taken_at v (Writing k r g) (Stage ts) Staged old new fits w =
+taken_at v (Writing k r g since) (Stage ts) Staged old new fits w =
     omega (arith, graph_few (triples_of g) ts.items, listed_few ts.items, ap length w.nodes, ap length w.records)
-taken_at v (Writing k r g) Commit (Status s name) old new fits w = uploaded v k r g s (is_success s) old w.between new refl fits.0 w.nodes w.records
-taken_at v (Writing k r g) Cancel Cancelled old new fits w = omega (arith, joined _ _ old w.between w.nodes, joined _ _ w.between new w.records)
-taken_at v (Writing k r g) (Delete t) (Status s name) old new fits w = absurd fits
-taken_at v (Writing k r g) (CommitPatch ops) (Status s name) old new fits w = absurd fits
-taken_at v (Patching t r) (CommitPatch ops) (Status s name) old new fits w = updated_few v t ops.items s (is_success s) old w.between new refl fits.0 w.nodes w.records
-taken_at v (Patching t r) (Delete u) (Status s name) old new fits w = absurd fits
-taken_at v (Patching t r) Commit (Status s name) old new fits w = absurd fits
-taken_at v (Patching t r) Cancel Cancelled old new fits w = omega (arith, ap length w.nodes, joined _ _ w.between new w.records)
+taken_at v (Writing k r g since) Commit (Status s name number) old new fits w = uploaded_if v k r g since s old w.between new fits.0 w.nodes w.records
+taken_at v (Writing k r g since) Cancel Cancelled old new fits w = omega (arith, joined _ _ old w.between w.nodes, joined _ _ w.between new w.records)
+taken_at v (Writing k r g since) (Delete t other) (Status s name number) old new fits w = absurd fits
+taken_at v (Writing k r g since) (CommitPatch ops) (Status s name number) old new fits w = absurd fits
+taken_at v (Patching t r since) (CommitPatch ops) (Status s name number) old new fits w = updated_if v t ops.items since s old w.between new fits.0 w.nodes w.records
+taken_at v (Patching t r since) (Delete u other) (Status s name number) old new fits w = absurd fits
+taken_at v (Patching t r since) Commit (Status s name number) old new fits w = absurd fits
+taken_at v (Patching t r since) Cancel Cancelled old new fits w = omega (arith, ap length w.nodes, joined _ _ w.between new w.records)
 taken_at v (Reading left) (Piece n) (Lines b end) old new fits w = omega (arith, piece_stages end (drop n left), ap length w.nodes, ap length w.records)
-taken_at v (Reading left) (Delete t) (Status s name) old new fits w = absurd fits
-taken_at v (Reading left) Commit (Status s name) old new fits w = absurd fits
-taken_at v (Reading left) (CommitPatch ops) (Status s name) old new fits w = absurd fits
+taken_at v (Reading left) (Delete t since) (Status s name number) old new fits w = absurd fits
+taken_at v (Reading left) Commit (Status s name number) old new fits w = absurd fits
+taken_at v (Reading left) (CommitPatch ops) (Status s name number) old new fits w = absurd fits
 taken_at v (Reading left) Cancel Cancelled old new fits w = unchanged (kept_in v.dataset + 0) old w.between new w.nodes w.records
 taken_at v p action a old new fits w = unchanged (kept_in v.dataset + held_at p) old w.between new w.nodes w.records
 

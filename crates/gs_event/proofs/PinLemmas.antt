@@ -11,7 +11,6 @@ use Rattle.gs_event.specs.declared.events.Action.TheVariants.{Open, OpenPatch, S
 use Rattle.gs_event.specs.declared.events.Event.TheVariants.{Seat as At, Reclaim}
 use Rattle.gs_event.specs.declared.answers.Answer.{Answer}
 use Rattle.gs_event.specs.declared.answers.Answer.TheVariants.{Opened, Staged, Status, Pinned, Lines, Cancelled, Refused}
-use Rattle.gs_event.specs.Operations.{Setting}
 use Rattle.gs_event.specs.Phases.{Phase, Idle, Writing, Patching, Reading}
 use Rattle.gs_event.specs.Views.{View, Totals, SeatView, Fits, FitsSeat}
 use Rattle.gs_event.specs.Waste.{Shown}
@@ -31,22 +30,22 @@ pin_ends start r n true = refl
 pin_ends start r n false = refl
 
 -- a seat's pin by its phase goes on as the table of pins says
-pin_next : (start : Start) (h : History) (v : Totals) (w : Setting) (p : Phase OpenRead) (action : Action) (a : Answer) → FitsSeat v (seat_view w p) action a → pin_of_read start (later h p action a) ≡ pin_after (commit_after start h) (pin_of_read start p) action a
-pin_next start h v w Idle (Open k) (Opened r) fits = refl
-pin_next start h v w Idle (OpenPatch t) (Opened r) fits = refl
-pin_next start h v w Idle (Pin t) (Pinned s) fits = pin_begins start h t (nat_eq s 200)
+pin_next : (start : Start) (h : History) (v : Totals) (w : Start) (p : Phase OpenRead) (action : Action) (a : Answer) → FitsSeat v (seat_view w p) action a → pin_of_read start (later h p action a) ≡ pin_after (commit_after start h) (pin_of_read start p) action a
+pin_next start h v w Idle (Open k since) (Opened r) fits = refl
+pin_next start h v w Idle (OpenPatch t since) (Opened r) fits = refl
+pin_next start h v w Idle (Pin t) (Pinned s number) fits = pin_begins start h t (nat_eq s 200)
 pin_next start h v w Idle (Piece n) (Lines b end) fits = absurd fits
 pin_next start h v w Idle Cancel Cancelled fits = refl
-pin_next start h v w (Writing k r g) (Stage ts) Staged fits = refl
-pin_next start h v w (Writing k r g) Commit (Status s name) fits = refl
-pin_next start h v w (Writing k r g) Cancel Cancelled fits = refl
-pin_next start h v w (Writing k r g) (Pin t) (Pinned s) fits = absurd fits
-pin_next start h v w (Writing k r g) (Piece n) (Lines b end) fits = absurd fits
-pin_next start h v w (Patching t r) (CommitPatch ops) (Status s name) fits = refl
-pin_next start h v w (Patching t r) Cancel Cancelled fits = refl
-pin_next start h v w (Patching t r) (Pin u) (Pinned s) fits = absurd fits
-pin_next start h v w (Patching t r) (Piece n) (Lines b end) fits = absurd fits
-pin_next start h v w (Reading x) (Pin t) (Pinned s) fits = absurd fits
+pin_next start h v w (Writing k r g since) (Stage ts) Staged fits = refl
+pin_next start h v w (Writing k r g since) Commit (Status s name number) fits = refl
+pin_next start h v w (Writing k r g since) Cancel Cancelled fits = refl
+pin_next start h v w (Writing k r g since) (Pin t) (Pinned s number) fits = absurd fits
+pin_next start h v w (Writing k r g since) (Piece n) (Lines b end) fits = absurd fits
+pin_next start h v w (Patching t r since) (CommitPatch ops) (Status s name number) fits = refl
+pin_next start h v w (Patching t r since) Cancel Cancelled fits = refl
+pin_next start h v w (Patching t r since) (Pin u) (Pinned s number) fits = absurd fits
+pin_next start h v w (Patching t r since) (Piece n) (Lines b end) fits = absurd fits
+pin_next start h v w (Reading x) (Pin t) (Pinned s number) fits = absurd fits
 pin_next start h v w (Reading x) (Piece n) (Lines b end) fits = pin_ends start x n end
 pin_next start h v w (Reading x) Cancel Cancelled fits = refl
 pin_next start h v w p action a fits = refl
@@ -71,7 +70,7 @@ other_pin start h s k action a ne =
     let apart : nat_eq s k ≡ false = ne_eqb s k (λ e. ne (sym e)) in
     rw apart
 
-own_pin : (start : Start) (h : History) (v : Totals) (w : Setting) (s : ℕ) (action : Action) (a : Answer) → FitsSeat v (seat_view w (phase_of h s)) action a → pin_of_read start (phase_by h s (phase_of h s) (At s action) a) ≡ pin_after (commit_after start h) (pin_of_read start (phase_of h s)) action a
+own_pin : (start : Start) (h : History) (v : Totals) (w : Start) (s : ℕ) (action : Action) (a : Answer) → FitsSeat v (seat_view w (phase_of h s)) action a → pin_of_read start (phase_by h s (phase_of h s) (At s action) a) ≡ pin_after (commit_after start h) (pin_of_read start (phase_of h s)) action a
 own_pin start h v w s action a fits =
     let same : nat_eq s s ≡ true = eq-eqb s s refl in
     rw same (pin_next start h v w (phase_of h s) action a fits)
@@ -97,10 +96,10 @@ next_pins start h s action a None is fits =
     ∙ sym (ap (λ p. slice_set pins s p) (ap (pin_after (commit_after start h) (get_or pins s None) action) fits ∙ refused_pin (commit_after start h) (get_or pins s None) action BadSeat))
 next_pins start h s action a (Some p) is fits =
     let pins = pinned_of start h in
-    let seen : seat_view start.setting (phase_of h s) ≡ p = sym (ap (λ k. seat_view start.setting (phase_of h k)) (zero-add s)) ∙ at_place (λ k. seat_view start.setting (phase_of h k)) 0 start.seats s p is in
-    let fit : FitsSeat (view_of start h).totals (seat_view start.setting (phase_of h s)) action a = subst (λ q. FitsSeat (view_of start h).totals q action a) (sym seen) fits in
-    let here : get_or pins s None ≡ pin_of_read start (phase_of h s) = same_place (λ k. seat_view start.setting (phase_of h k)) (λ k. pin_of_read start (phase_of h k)) 0 start.seats s p None is ∙ ap (λ k. pin_of_read start (phase_of h k)) (zero-add s) in
-    let own = own_pin start h (view_of start h).totals start.setting s action a fit ∙ ap (λ q. pin_after (commit_after start h) q action a) (sym here) in
+    let seen : seat_view start (phase_of h s) ≡ p = sym (ap (λ k. seat_view start (phase_of h k)) (zero-add s)) ∙ at_place (λ k. seat_view start (phase_of h k)) 0 start.seats s p is in
+    let fit : FitsSeat (view_of start h).totals (seat_view start (phase_of h s)) action a = subst (λ q. FitsSeat (view_of start h).totals q action a) (sym seen) fits in
+    let here : get_or pins s None ≡ pin_of_read start (phase_of h s) = same_place (λ k. seat_view start (phase_of h k)) (λ k. pin_of_read start (phase_of h k)) 0 start.seats s p None is ∙ ap (λ k. pin_of_read start (phase_of h k)) (zero-add s) in
+    let own = own_pin start h (view_of start h).totals start s action a fit ∙ ap (λ q. pin_after (commit_after start h) q action a) (sym here) in
     changed_at (λ k. pin_of_read start (phase_of h k)) (λ k. pin_of_read start (phase_by h k (phase_of h k) (At s action) a)) 0 start.seats s _ (ap (λ k. pin_of_read start (phase_by h k (phase_of h k) (At s action) a)) (zero-add s) ∙ own) (λ k ne. other_pin start h s k action a (λ e. ne (e ∙ sym (zero-add s))))
 
 -- the pins after one more answer that fits

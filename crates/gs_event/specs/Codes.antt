@@ -11,6 +11,7 @@ use Rattle.gs_event.specs.declared.events.UploadKind.{UploadKind}
 use Rattle.gs_event.specs.declared.events.UploadKind.TheVariants.{Put, Post, New}
 use Rattle.gs_term.specs.Names.{name_cmp}
 use Rattle.gs_event.specs.Operations.{Setting}
+use Rattle.gs_event.specs.Conditions.{LastWrites}
 use Rattle.gs_event.specs.Phases.{Idle, Writing, Patching, Reading}
 use Rattle.gs_event.specs.Views.{View, SeatView}
 use Rattle.gs_event.specs.Waste.{Lifetime, Shown}
@@ -66,45 +67,53 @@ setting_code =
 
 -- an upload's kind, request and graph, a patch's target and request, or the lines that are left of a read, or none of them
 abbrev pub SeatParts : Type 0
-SeatParts = Option ((UploadKind × (ℕ × Graph)) ⊎ ((Target × ℕ) ⊎ List (List ℕ)))
+SeatParts = Option ((UploadKind × (ℕ × (Graph × Option ℕ))) ⊎ ((Target × (ℕ × Option ℕ)) ⊎ List (List ℕ)))
 
 -- the parts of a seat; an idle one has none
 abbrev pub seat_parts : SeatView → SeatParts
 seat_parts Idle = None
-seat_parts (Writing k r g) = Some (inl (k, (r, g)))
-seat_parts (Patching t r) = Some (inr (inl (t, r)))
+seat_parts (Writing k r g since) = Some (inl (k, (r, (g, since))))
+seat_parts (Patching t r since) = Some (inr (inl (t, (r, since))))
 seat_parts (Reading left) = Some (inr (inr left))
 
 -- the seat of these parts
 abbrev pub seat_from : SeatParts → SeatView
 seat_from None = Idle
-seat_from (Some (inl p)) = Writing p.0 p.1.0 p.1.1
-seat_from (Some (inr (inl p))) = Patching p.0 p.1
+seat_from (Some (inl p)) = Writing p.0 p.1.0 p.1.1.0 p.1.1.1
+seat_from (Some (inr (inl p))) = Patching p.0 p.1.0 p.1.1
 seat_from (Some (inr (inr left))) = Reading left
 
 -- the seat made of a seat's parts is that seat
 abbrev pub seat_back : (s : SeatView) → seat_from (seat_parts s) ≡ s
 seat_back Idle = refl
-seat_back (Writing k r g) = refl
-seat_back (Patching t r) = refl
+seat_back (Writing k r g since) = refl
+seat_back (Patching t r since) = refl
 seat_back (Reading left) = refl
 
 -- how a seat is stored: by its parts
 abbrev pub seat_code : Coded SeatView
 seat_code =
-    code_by SeatParts (coded_option (coded⊎ (coded× kind_code (coded× coded_ℕ graph_code)) (coded⊎ (coded× target_code coded_ℕ) (coded_list text_code))))
+    code_by SeatParts (coded_option (coded⊎ (coded× kind_code (coded× coded_ℕ (coded× graph_code (coded_option coded_ℕ)))) (coded⊎ (coded× target_code (coded× coded_ℕ (coded_option coded_ℕ))) (coded_list text_code))))
     seat_parts seat_from seat_back
 
--- the setting, the default graph, the named graphs, the last request, the last commit, and the seats
+-- how the last writes are stored: each of them
+abbrev pub last_writes_code : Coded LastWrites
+last_writes_code =
+    code_by (ℕ × (map.FinMap name_cmp ℕ × ℕ)) (coded× coded_ℕ (coded× (map.code text_code coded_ℕ) coded_ℕ))
+    (λ k. (k.unnamed, (k.named, k.removed)))
+    (λ p. record { unnamed = p.0; named = p.1.0; removed = p.1.1 })
+    (λ _. refl)
+
+-- the setting, the default graph, the named graphs, the last request, the last commit, the last writes, and the seats
 abbrev pub ViewParts : Type 0
-ViewParts = Setting × ((Graph × map.FinMap name_cmp Graph) × (ℕ × (ℕ × List SeatView)))
+ViewParts = Setting × ((Graph × map.FinMap name_cmp Graph) × (ℕ × (ℕ × (LastWrites × List SeatView))))
 
 -- how a view is stored: by those parts
 abbrev pub view_code : Coded View
 view_code =
-    code_by ViewParts (coded× setting_code (coded× (coded× graph_code (map.code text_code graph_code)) (coded× coded_ℕ (coded× coded_ℕ (coded_list seat_code)))))
-    (λ v. (v.totals.setting, ((v.totals.dataset.unnamed, v.totals.dataset.named), (v.totals.request, (v.totals.commit, v.seats)))))
-    (λ p. record { totals = record { setting = p.0; dataset = record { unnamed = p.1.0.0; named = p.1.0.1 }; request = p.1.1.0; commit = p.1.1.1.0 }; seats = p.1.1.1.1 })
+    code_by ViewParts (coded× setting_code (coded× (coded× graph_code (map.code text_code graph_code)) (coded× coded_ℕ (coded× coded_ℕ (coded× last_writes_code (coded_list seat_code))))))
+    (λ v. (v.totals.setting, ((v.totals.dataset.unnamed, v.totals.dataset.named), (v.totals.request, (v.totals.commit, (v.totals.last_writes, v.seats))))))
+    (λ p. record { totals = record { setting = p.0; dataset = record { unnamed = p.1.0.0; named = p.1.0.1 }; request = p.1.1.0; commit = p.1.1.1.0; last_writes = p.1.1.1.1.0 }; seats = p.1.1.1.1.1 })
     (λ _. refl)
 
 -- how a lifetime is stored: its birth and its death

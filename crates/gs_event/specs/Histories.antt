@@ -7,9 +7,10 @@ use Rattle.gs_event.specs.declared.events.Event.TheVariants.{Seat as At, Reclaim
 use Rattle.gs_event.specs.declared.answers.Answer.{Answer}
 use Rattle.gs_event.specs.declared.limits.Limits.{Limits}
 use Rattle.gs_event.specs.Datasets.{Dataset, lines_in}
-use Rattle.gs_event.specs.Operations.{Setting, Operation, after_all}
+use Rattle.gs_event.specs.Operations.{Setting}
+use Rattle.gs_event.specs.Conditions.{State, Asked, after_all_if}
 use Rattle.gs_event.specs.Phases.{Phase, Idle, Writing, Patching, Reading, phase_after, operation_of}
-use Rattle.gs_event.specs.Views.{View, SeatView, Fits, answers_opened, is_written}
+use Rattle.gs_event.specs.Views.{View, SeatView, Fits, answers_opened}
 use Rattle.gs_event.specs.Waste.{Shown}
 
 -- each event with its answer, the newest first: the tail of a history is what went before
@@ -36,29 +37,14 @@ phase_of [] seat = Idle
 phase_of (x ∷ before) seat = phase_by before seat (phase_of before seat) x.0 x.1
 
 -- what the abstract store is asked by an event that was answered so
-abbrev pub operation_by : History → Event → Answer → Option Operation
+abbrev pub operation_by : History → Event → Answer → Option Asked
 operation_by before (Reclaim n) a = None
 operation_by before (At s action) a = operation_of (phase_of before s) action a
 
 -- the points of a history, the newest first: each write at its commit, and each read at its pin
-abbrev pub points_of : History → List Operation
+abbrev pub points_of : History → List Asked
 points_of [] = []
 points_of (x ∷ before) = cons_option (operation_by before x.0 x.1) (points_of before)
-
--- the dataset after a history
-abbrev pub dataset_after : Setting → History → Dataset
-dataset_after w h = after_all w (points_of h)
-
--- the lines left of a read: its graph's or dataset's at the pin, without those that were given
-abbrev pub lines_left : Setting → OpenRead → List (List ℕ)
-lines_left w r = drop r.given (lines_in (dataset_after w r.before) r.scope)
-
--- a phase as it is seen
-abbrev pub seat_view : Setting → Phase OpenRead → SeatView
-seat_view w Idle = Idle
-seat_view w (Writing k r g) = Writing k r g
-seat_view w (Patching t r) = Patching t r
-seat_view w (Reading r) = Reading (lines_left w r)
 
 -- where a store begins
 pub record Start : Type 0 where
@@ -72,27 +58,47 @@ abbrev pub start_with : ℕ → List ℕ → Limits → ℕ → ℕ → Start
 start_with seats base limits request commit =
     record { seats = seats; setting = record { base = base; limits = limits }; request = request; commit = commit }
 
+-- what the abstract store keeps after a history
+abbrev pub state_after : Start → History → State
+state_after start h = after_all_if start.setting start.commit (points_of h)
+
+-- the dataset after a history
+abbrev pub dataset_after : Start → History → Dataset
+dataset_after start h = (state_after start h).dataset
+
+-- the lines left of a read: its graph's or dataset's at the pin, without those that were given
+abbrev pub lines_left : Start → OpenRead → List (List ℕ)
+lines_left start r = drop r.given (lines_in (dataset_after start r.before) r.scope)
+
+-- a phase as it is seen
+abbrev pub seat_view : Start → Phase OpenRead → SeatView
+seat_view start Idle = Idle
+seat_view start (Writing k r g since) = Writing k r g since
+seat_view start (Patching t r since) = Patching t r since
+seat_view start (Reading r) = Reading (lines_left start r)
+
 -- the last commit number after a history
 abbrev pub commit_after : Start → History → ℕ
-commit_after start h = start.commit + count_by (λ x. is_written x.1) h
+commit_after start h = (state_after start h).commit
 
 -- what a store shows after a history
 abbrev pub view_of : Start → History → View
 view_of start h = record {
   totals = record {
     setting = start.setting;
-    dataset = dataset_after start.setting h;
+    dataset = dataset_after start h;
     request = start.request + count_by (λ x. answers_opened x.1) h;
     commit = commit_after start h;
+    last_writes = (state_after start h).last_writes;
   };
-  seats = map (λ s. seat_view start.setting (phase_of h s)) (range_with_len 0 start.seats);
+  seats = map (λ s. seat_view start (phase_of h s)) (range_with_len 0 start.seats);
 }
 
 -- the commit number at the pin of a read
 abbrev pub pin_of_read : Start → Phase OpenRead → Option ℕ
 pin_of_read start Idle = None
-pin_of_read start (Writing k r g) = None
-pin_of_read start (Patching t r) = None
+pin_of_read start (Writing k r g since) = None
+pin_of_read start (Patching t r since) = None
 pin_of_read start (Reading r) = Some (commit_after start r.before)
 
 -- the commit numbers at the pins of all reads, by seat

@@ -45,11 +45,11 @@ most_for_update (Some g) ops = 260 * (inserted_by g ops + removed_by g ops)
 -- The most nodes and records that an action which was answered so takes into use: a record that is opened, a node for each
 -- triple that is staged, the nodes of a commit where it took effect, and else none.
 abbrev pub most_taken_at : Dataset → SeatView → Action → Answer → ℕ
-most_taken_at m Idle (Open k) (Opened r) = 1
-most_taken_at m Idle (OpenPatch t) (Opened r) = 1
-most_taken_at m (Writing k r g) (Stage ts) Staged = length ts.items
-most_taken_at m (Writing k r g) Commit (Status s name) = if is_success s then most_for_upload k g else 0
-most_taken_at m (Patching t r) (CommitPatch ops) (Status s name) =
+most_taken_at m Idle (Open k since) (Opened r) = 1
+most_taken_at m Idle (OpenPatch t since) (Opened r) = 1
+most_taken_at m (Writing k r g since) (Stage ts) Staged = length ts.items
+most_taken_at m (Writing k r g since) Commit (Status s name number) = if is_success s then most_for_upload k g else 0
+most_taken_at m (Patching t r since) (CommitPatch ops) (Status s name number) =
     if is_success s then most_for_update (graph_at m t) ops.items else 0
 most_taken_at m p action a = 0
 

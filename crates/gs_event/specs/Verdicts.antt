@@ -1,5 +1,5 @@
--- What becomes of a write, by counts alone, and what that says of the abstract store (SPARQL 1.1 Graph Store
--- HTTP Protocol, section 5): 404 comes before 507, and 507 before want of a commit number.
+-- What becomes of a write that is not too late, by counts alone, and what that says of the abstract store (SPARQL 1.1
+-- Graph Store HTTP Protocol, section 5): 404 comes before 507, and 507 before want of a commit number.
 use Rattle.std.specs.Prelude.{IfSome, ◌≡◌, ◌<◌, ◌≤◌, ℕ, ◌+◌, ◌-◌, Bool, true, false, ◌||◌, ◌&&◌, nat_le, nat_lt, if◌then◌else◌, Option, Some, None}
 use Rattle.gs_model.specs.Limits.{last_number}
 use Rattle.gs_model.specs.Graphs.{Graph, size_of}
@@ -53,17 +53,17 @@ holdings_of w m commit = record { triples = triples_in m; names = names_in m; co
 abbrev pub place_in : Dataset → Target → Place
 place_in m t = record { is_name = is_named t; is_there = is_there m t; triples = size_at m t }
 
--- the target of an operation: a new graph's is the name that is made up for it
-abbrev pub operation_target : Setting → Dataset → Operation → Target
-operation_target w m (Puts t g) = t
-operation_target w m (Posts t g) = t
-operation_target w m (Creates r g) = Named (new_name w.base m r)
-operation_target w m (Patches t ops) = t
-operation_target w m (Deletes t) = t
-operation_target w m (Looks (One t)) = t
-operation_target w m (Looks All) = Default
-operation_target w m (Reads (One t)) = t
-operation_target w m (Reads All) = Default
+-- the target of an operation, where it has one: a new graph's is the name that is made up for it
+abbrev pub operation_target : Setting → Dataset → Operation → Option Target
+operation_target w m (Puts t g) = Some t
+operation_target w m (Posts t g) = Some t
+operation_target w m (Creates r g) = Some (Named (new_name w.base m r))
+operation_target w m (Patches t ops) = Some t
+operation_target w m (Deletes t) = Some t
+operation_target w m (Looks (One t)) = Some t
+operation_target w m (Looks All) = None
+operation_target w m (Reads (One t)) = Some t
+operation_target w m (Reads All) = None
 
 -- what an operation does to its target, where it is a write
 abbrev pub change_of : Dataset → Operation → Option Change
@@ -115,4 +115,4 @@ DecidesRemoval m commit t (Granted status triples names) =
 -- where the operation is a write, its verdict by the counts says of it what the abstract store says
 abbrev pub IsDecided : Setting → Dataset → ℕ → Operation → Type 0
 IsDecided w m commit q =
-    IfSome (change_of m q) (λ x. Decides w m commit q (verdict_of (holdings_of w m commit) (place_in m (operation_target w m q)) x))
+    IfSome (change_of m q) (λ x. IfSome (operation_target w m q) (λ t. Decides w m commit q (verdict_of (holdings_of w m commit) (place_in m t) x)))

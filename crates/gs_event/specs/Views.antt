@@ -10,55 +10,65 @@ use Rattle.gs_event.specs.declared.events.Event.TheVariants.{Seat as At, Reclaim
 use Rattle.gs_event.specs.declared.answers.Answer.{Answer}
 use Rattle.gs_event.specs.declared.answers.Answer.TheVariants.{Opened, Staged, Status, Pinned, Lines, Cancelled, Reclaimed, Refused}
 use Rattle.gs_event.specs.Datasets.{Dataset, lines_in}
-use Rattle.gs_event.specs.Operations.{Setting, Operation, Patches, Deletes, Looks, Reads, after, status_of, location_of, is_success, wants_memory}
+use Rattle.gs_event.specs.Operations.{Setting, Patches, Deletes, Looks, Reads, status_of, is_success}
+use Rattle.gs_event.specs.Conditions.{LastWrites, State, Asked, asked_since, after_if, status_if, location_if, number_if, wants_memory_if}
 use Rattle.gs_event.specs.Phases.{Phase, Idle, Writing, Patching, Reading, allows, phase_after, write_of, operation_of}
 
 -- a seat as it is seen: a read is the lines that are left of it
 abbrev pub SeatView : Type 0
 SeatView = Phase (List (List ℕ))
 
--- the setting, the dataset, and the numbers of the last request and of the last commit
+-- the setting, the dataset, the numbers of the last request and of the last commit, and those of the last writes
 pub record Totals : Type 0 where
   pub setting : Setting
   pub dataset : Dataset
   pub request : ℕ
   pub commit : ℕ
+  pub last_writes : LastWrites
+
+-- what the abstract store keeps
+abbrev pub state_of : Totals → State
+state_of v = record { dataset = v.dataset; commit = v.commit; last_writes = v.last_writes }
 
 -- the totals, and the seats by their numbers
 pub record View : Type 0 where
   pub totals : Totals
   pub seats : List SeatView
 
--- The answers that fit a write: its status and location, and a commit number that is left for it.
--- Want of memory may take the place of the answer where `wants_memory` says so.
-abbrev pub FitsWrite : Totals → Operation → Answer → Type 0
-FitsWrite v q (Status s name) = (s ≡ status_of v.setting v.dataset q) × (name ≡ location_of v.setting v.dataset q) × (is_success s ≡ true → v.commit < last_number)
-FitsWrite v q (Refused LastNumber) = (is_success (status_of v.setting v.dataset q) ≡ true) × (last_number ≤ v.commit)
-FitsWrite v q (Refused NoMemory) = wants_memory v.dataset q ≡ true
+-- The answers that fit a write: its status, location and number, and a commit number that is left for it.
+-- Want of memory may take the place of the answer where `wants_memory_if` says so.
+abbrev pub FitsWrite : Totals → Asked → Answer → Type 0
+FitsWrite v q (Status s name number) =
+    (s ≡ status_if v.setting (state_of v) q)
+    × (name ≡ location_if v.setting (state_of v) q)
+    × (is_success s ≡ true → v.commit < last_number)
+    × (number ≡ number_if v.setting (state_of v) q)
+FitsWrite v q (Refused LastNumber) = (is_success (status_if v.setting (state_of v) q) ≡ true) × (last_number ≤ v.commit)
+FitsWrite v q (Refused NoMemory) = wants_memory_if (state_of v) q ≡ true
 FitsWrite v q a = ⊥
 
 -- The answers that fit a seat's action. Want of memory may be answered where a row says so, and nowhere else.
 abbrev pub FitsSeat : Totals → SeatView → Action → Answer → Type 0
-FitsSeat v Idle (Open k) (Opened r) = (v.request < last_number) × (r ≡ v.request + 1)
-FitsSeat v Idle (Open k) (Refused LastNumber) = last_number ≤ v.request
-FitsSeat v Idle (Open k) (Refused NoMemory) = v.request < last_number
-FitsSeat v Idle (OpenPatch t) (Opened r) = (v.request < last_number) × (r ≡ v.request + 1)
-FitsSeat v Idle (OpenPatch t) (Refused LastNumber) = last_number ≤ v.request
-FitsSeat v Idle (OpenPatch t) (Refused NoMemory) = v.request < last_number
-FitsSeat v Idle (Delete t) (Status s name) = FitsWrite v (Deletes t) (Status s name)
-FitsSeat v Idle (Delete t) (Refused LastNumber) = FitsWrite v (Deletes t) (Refused LastNumber)
-FitsSeat v Idle (Head c) (Status s name) = (s ≡ status_of v.setting v.dataset (Looks c)) × (name ≡ None)
-FitsSeat v Idle (Pin c) (Pinned s) = s ≡ status_of v.setting v.dataset (Reads c)
-FitsSeat v (Writing k r g) (Stage ts) Staged = Unit {0}
-FitsSeat v (Writing k r g) (Stage ts) (Refused NoMemory) = Unit {0}
-FitsSeat v (Writing k r g) Commit (Status s name) = FitsWrite v (write_of k r g) (Status s name)
-FitsSeat v (Writing k r g) Commit (Refused LastNumber) = FitsWrite v (write_of k r g) (Refused LastNumber)
-FitsSeat v (Writing k r g) Commit (Refused NoMemory) = FitsWrite v (write_of k r g) (Refused NoMemory)
-FitsSeat v (Writing k r g) Cancel Cancelled = Unit {0}
-FitsSeat v (Patching t r) (CommitPatch ops) (Status s name) = FitsWrite v (Patches t ops.items) (Status s name)
-FitsSeat v (Patching t r) (CommitPatch ops) (Refused LastNumber) = FitsWrite v (Patches t ops.items) (Refused LastNumber)
-FitsSeat v (Patching t r) (CommitPatch ops) (Refused NoMemory) = FitsWrite v (Patches t ops.items) (Refused NoMemory)
-FitsSeat v (Patching t r) Cancel Cancelled = Unit {0}
+FitsSeat v Idle (Open k since) (Opened r) = (v.request < last_number) × (r ≡ v.request + 1)
+FitsSeat v Idle (Open k since) (Refused LastNumber) = last_number ≤ v.request
+FitsSeat v Idle (Open k since) (Refused NoMemory) = v.request < last_number
+FitsSeat v Idle (OpenPatch t since) (Opened r) = (v.request < last_number) × (r ≡ v.request + 1)
+FitsSeat v Idle (OpenPatch t since) (Refused LastNumber) = last_number ≤ v.request
+FitsSeat v Idle (OpenPatch t since) (Refused NoMemory) = v.request < last_number
+FitsSeat v Idle (Delete t since) (Status s name number) = FitsWrite v (asked_since since (Deletes t)) (Status s name number)
+FitsSeat v Idle (Delete t since) (Refused LastNumber) = FitsWrite v (asked_since since (Deletes t)) (Refused LastNumber)
+FitsSeat v Idle (Head c) (Status s name number) = (s ≡ status_of v.setting v.dataset (Looks c)) × (name ≡ None) × (number ≡ v.commit)
+FitsSeat v Idle (Pin c) (Pinned s number) = (s ≡ status_of v.setting v.dataset (Reads c)) × (number ≡ v.commit)
+FitsSeat v (Writing k r g since) (Stage ts) Staged = Unit {0}
+FitsSeat v (Writing k r g since) (Stage ts) (Refused NoMemory) = Unit {0}
+FitsSeat v (Writing k r g since) Commit (Status s name number) = FitsWrite v (asked_since since (write_of k r g)) (Status s name number)
+FitsSeat v (Writing k r g since) Commit (Refused LastNumber) = FitsWrite v (asked_since since (write_of k r g)) (Refused LastNumber)
+FitsSeat v (Writing k r g since) Commit (Refused NoMemory) = FitsWrite v (asked_since since (write_of k r g)) (Refused NoMemory)
+FitsSeat v (Writing k r g since) Cancel Cancelled = Unit {0}
+FitsSeat v (Patching t r since) (CommitPatch ops) (Status s name number) = FitsWrite v (asked_since since (Patches t ops.items)) (Status s name number)
+FitsSeat v (Patching t r since) (CommitPatch ops) (Refused LastNumber) = FitsWrite v (asked_since since (Patches t ops.items)) (Refused LastNumber)
+FitsSeat v (Patching t r since) (CommitPatch ops) (Refused NoMemory) = FitsWrite v (asked_since since (Patches t ops.items)) (Refused NoMemory)
+FitsSeat v (Patching t r since) Cancel Cancelled = Unit {0}
 FitsSeat v (Reading left) (Piece n) (Lines b end) = (0 < n) × (b.items ≡ concat (take n left)) × (end ≡ nat_le (length left) n)
 FitsSeat v (Reading left) (Piece n) (Refused NoMemory) = 0 < n
 FitsSeat v (Reading left) Cancel Cancelled = Unit {0}
@@ -78,22 +88,25 @@ answers_opened a = false
 
 -- whether a write took effect
 abbrev pub is_written : Answer → Bool
-is_written (Status s name) = is_success s
+is_written (Status s name number) = is_success s
 is_written a = false
 
--- the dataset after an operation, if there was one
-abbrev pub after_asked : Setting → Dataset → Option Operation → Dataset
+-- the state after an operation, if there was one
+abbrev pub after_asked : Setting → State → Option Asked → State
 after_asked w m None = m
-after_asked w m (Some q) = after w m q
+after_asked w m (Some q) = after_if w m q
 
 -- the totals after an answer to a seat at this phase
 abbrev pub next_totals : Totals → SeatView → Action → Answer → Totals
-next_totals v p action a = record {
-  setting = v.setting;
-  dataset = after_asked v.setting v.dataset (operation_of p action a);
-  request = v.request + (if answers_opened a then 1 else 0);
-  commit = v.commit + (if is_written a then 1 else 0);
-}
+next_totals v p action a =
+    let next = after_asked v.setting (state_of v) (operation_of p action a) in
+    record {
+      setting = v.setting;
+      dataset = next.dataset;
+      request = v.request + (if answers_opened a then 1 else 0);
+      commit = next.commit;
+      last_writes = next.last_writes;
+    }
 
 -- the phase, as it is seen, after an answer to a seat at this phase
 abbrev pub next_phase : Totals → SeatView → Action → Answer → SeatView

@@ -21,8 +21,8 @@ pub record Shown : Type 0 where
 -- how many nodes and records the seat has open: a node for each triple of an upload, and a record of an upload or a patch
 abbrev pub held_at : {R : Type 0} → Phase R → ℕ
 held_at Idle = 0
-held_at (Writing k r g) = size_of g + 1
-held_at (Patching t r) = 1
+held_at (Writing k r g since) = size_of g + 1
+held_at (Patching t r since) = 1
 held_at (Reading left) = 0
 
 -- how many all seats have open

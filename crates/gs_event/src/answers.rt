@@ -9,10 +9,12 @@ pub enum Answer {
     Opened(u64),
     /// The triples are in the seat's upload.
     Staged,
-    /// The HTTP status of a write, and the name of the graph that it made up, if it did.
-    Status(u16, Option<GraphName>),
-    /// The HTTP status of a read: 200, and the seat reads, or 404.
-    Pinned(u16),
+    /// The HTTP status of a write or a question, the name of the graph that it made up, if it did, and a
+    /// commit number: of a write that took effect its own, with 412 that of the last write on the target,
+    /// and otherwise the last one.
+    Status(u16, Option<GraphName>, u64),
+    /// The HTTP status of a read: 200, and the seat reads, or 404; and the last commit number.
+    Pinned(u16, u64),
     /// The next lines, and whether no line is left after them.
     Lines(Vec<u8>, bool),
     /// The seat's upload, patch or read is given up.

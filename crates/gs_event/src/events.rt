@@ -25,10 +25,11 @@ pub enum Scope {
 /// What a seat does. A seat holds at most one upload, patch or read at a time.
 #[derive(Debug, Drop)]
 pub enum Action {
-    /// Opens an upload.
-    Open(UploadKind),
-    /// Opens a patch of a graph.
-    OpenPatch(Target),
+    /// Opens an upload. With a number it takes effect only where its target has not been written since the
+    /// commit of that number; a new graph is made in any case.
+    Open(UploadKind, Option<u64>),
+    /// Opens a patch of a graph, with such a condition.
+    OpenPatch(Target, Option<u64>),
     /// Adds triples to the seat's upload.
     Stage(Vec<Triple>),
     /// Makes the seat's upload take effect, whole.
@@ -36,8 +37,8 @@ pub enum Action {
     /// Makes these operations take effect on the graph of the seat's patch, whole, in their order
     /// (section 5.7).
     CommitPatch(Vec<Op>),
-    /// Takes a named graph out, or empties the default graph (section 5.4).
-    Delete(Target),
+    /// Takes a named graph out, or empties the default graph (section 5.4), with such a condition.
+    Delete(Target, Option<u64>),
     /// Asks whether there is such a graph (section 5.6). The whole dataset is always there.
     Head(Scope),
     /// Begins a read of a graph, or of all of them, as they are now (section 5.2).

@@ -16,4 +16,4 @@ pub use laws::{
 };
 pub use limits::Limits;
 pub use updates::Op;
-pub use verdicts::{Change, Holdings, Place, Verdict, verdict_on};
+pub use verdicts::{Change, Holdings, Place, Verdict, is_late, verdict_on};

@@ -1,5 +1,6 @@
 //! What becomes of a write, decided before anything is changed.
 ghost use Rattle.std.specs.Prelude.{◌≡◌, ◌+◌, nat_le, if◌then◌else◌};
+ghost use Rattle.gs_event.specs.Conditions.{is_above};
 ghost use Rattle.gs_event.specs.Verdicts.{verdict_of, stored_of, granted_of};
 
 use crate::limits::Limits;
@@ -104,4 +105,15 @@ fn granted(commit: u64, status: u16, triples: u64, names: u64) -> Verdict
         return Verdict::LastNumber;
     }
     Verdict::Granted(status, triples, names)
+}
+
+/// Whether a write comes too late: the last write on its target came after the commit of this number, if
+/// there is one.
+pub fn is_late(last_write: u64, since: Option<u64>) -> bool
+    ensures { result ≡ is_above last_write since }
+{
+    match since {
+        None => false,
+        Some(number) => number < last_write,
+    }
 }

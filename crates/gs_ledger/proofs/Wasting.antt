@@ -12,7 +12,7 @@ use Rattle.gs_tree.specs.Steps.{Step}
 use Rattle.gs_tree.proofs.Heights.{size-keys}
 use Rattle.gs_versions.specs.Pins.{Pins, at_commit}
 use Rattle.gs_event.specs.Waste.{Lifetime}
-use Rattle.gs_event.specs.Steps.{Joins, IsUnreached, EndsAt}
+use Rattle.gs_event.specs.Wasting.{Joins, IsUnreached, EndsAt}
 use Rattle.gs_ledger.specs.Entries.{Dead, died_whole, tree_lives, entry_lives, lives}
 use Rattle.gs_ledger.specs.Marks.{waste_at}
 use Rattle.gs_ledger.specs.Ledger.{IsTreeOf, IsLedger}

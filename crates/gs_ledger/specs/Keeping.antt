@@ -5,7 +5,7 @@ use Rattle.gs_pool.specs.Pool.{Nodes, is_aside, mark_at, aside_count}
 use Rattle.gs_tree.specs.Tree.{Tree, keys, occurrences}
 use Rattle.gs_tree.specs.Steps.{Step}
 use Rattle.gs_versions.specs.Pins.{Pins, with_pin, at_commit}
-use Rattle.gs_event.specs.Steps.{Joins, IsUnreached, EndsAt}
+use Rattle.gs_event.specs.Wasting.{Joins, IsUnreached, EndsAt}
 use Rattle.gs_ledger.specs.Entries.{Dead, died_whole}
 use Rattle.gs_ledger.specs.Marks.{waste_at}
 use Rattle.gs_ledger.specs.Ledger.{IsTreeOf, IsLedger}

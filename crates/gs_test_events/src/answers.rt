@@ -7,12 +7,13 @@ pub fn words(alloc: Global, answer: &Answer) -> Result<String, AllocError> {
     match answer {
         Answer::Opened(number) => format!(in alloc; "opened {number}\n"),
         Answer::Staged => format!(in alloc; "staged\n"),
-        Answer::Status(status, None) => format!(in alloc; "{status}\n"),
-        Answer::Status(status, Some(name)) => {
+        Answer::Status(412, _, last_write) => format!(in alloc; "412 {last_write}\n"),
+        Answer::Status(status, None, _) => format!(in alloc; "{status}\n"),
+        Answer::Status(status, Some(name), _) => {
             let text = str::from_utf8(name.as_bytes()).unwrap_or("no text");
             format!(in alloc; "{status} {text}\n")
         }
-        Answer::Pinned(status) => format!(in alloc; "{status}\n"),
+        Answer::Pinned(status, _) => format!(in alloc; "{status}\n"),
         Answer::Lines(lines, end) => {
             let text = str::from_utf8(lines.as_slice()).unwrap_or("no text");
             let last = if *end { "end" } else { "more" };

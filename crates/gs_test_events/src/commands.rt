@@ -28,16 +28,25 @@ fn kind(alloc: Global, word: &str, name: &str) -> Result<UploadKind, Refusal> {
     }
 }
 
+/// The number after the word `since`, where these two end the words.
+fn since(words: &[&str]) -> Option<u64> {
+    let (last, front) = words.split_last()?;
+    if front.last().copied() != Some("since") {
+        return None;
+    }
+    last.parse::<u64>().ok()
+}
+
 /// The action of a line's words after the seat.
 fn action(alloc: Global, words: &[&str]) -> Result<Action, Refusal> {
     let word = words.first().copied().unwrap_or_default();
     let next = words.get(1).copied().unwrap_or_default();
     let last = words.get(2).copied().unwrap_or_default();
     match word {
-        "open" if next == "patch" => Ok(Action::OpenPatch(target(alloc, last)?)),
-        "open" => Ok(Action::Open(kind(alloc, next, last)?)),
+        "open" if next == "patch" => Ok(Action::OpenPatch(target(alloc, last)?, since(words))),
+        "open" => Ok(Action::Open(kind(alloc, next, last)?, since(words))),
         "commit" => Ok(Action::Commit),
-        "delete" => Ok(Action::Delete(target(alloc, next)?)),
+        "delete" => Ok(Action::Delete(target(alloc, next)?, since(words))),
         "head" => Ok(Action::Head(scope(alloc, next)?)),
         "pin" => Ok(Action::Pin(scope(alloc, next)?)),
         "piece" => Ok(Action::Piece(next.parse::<u32>().unwrap_or_default())),
