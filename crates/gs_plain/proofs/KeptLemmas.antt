@@ -1,8 +1,10 @@
 -- What a seat's action keeps of the whole store.
-use Rattle.std.proofs.Common.{zero, suc, drop, ◌≡◌, ℕ, ◌+◌, ◌<◌, ◌≤◌, Bool, true, false, cond, List, [], ◌∷◌, map, length, get_or, Some, None, MatchOption, refl, sym, ap, ◌∙◌, subst, arith, vec_len, vec_capacity, string_bytes, option_map, replicate, add-zero}
+use Rattle.std.proofs.Common.{zero, suc, drop, ◌≡◌, ℕ, ◌+◌, ◌<◌, ◌≤◌, true, false, cond, List, [], ◌∷◌, map, length, get_or, Option, Some, None, MatchOption, refl, sym, ap, ◌∙◌, subst, arith, vec_len, vec_capacity, string_bytes, option_map, replicate, add-zero}
 use Rattle.std.specs.List.{slice_get, slice_set, count_by, sum_by, All, range_with_len}
 use Rattle.gs_event.specs.Datasets.{empty_dataset, quads_of, triples_in, names_in, records_in}
 use Rattle.gs_event.specs.Histories.{view_of}
+use Rattle.gs_event.specs.Operations.{Setting}
+use Rattle.gs_event.specs.Conditions.{State, Asked, is_late, done_by}
 use Rattle.gs_event.specs.Waste.{Shown, held_at, held_in, nodes_in}
 use Rattle.gs_event.proofs.DatasetLemmas.{triples_in-empty, names_in-empty}
 use Rattle.std.proofs.lemmas.List.Folds.{sum_by-replicate}
@@ -18,13 +20,15 @@ use Rattle.gs_event.specs.declared.events.Action.{Action}
 use Rattle.gs_event.specs.declared.answers.Answer.{Answer}
 use Rattle.gs_event.specs.declared.answers.Answer.TheVariants.{Refused}
 use Rattle.gs_event.specs.Phases as phase
-use Rattle.gs_event.specs.Views.{View, Totals, SeatView, FitsSeat, is_written, next_phase, next_at, next_if}
+use Rattle.gs_event.specs.Phases.{operation_of}
+use Rattle.gs_event.specs.Views.{View, Totals, SeatView, FitsSeat, state_of, after_asked, next_phase, next_at, next_if}
 use Rattle.gs_plain.specs.declared.books.Row.{Row}
 use Rattle.gs_plain.specs.declared.books.Books.{Books}
 use Rattle.gs_plain.specs.declared.books.Seat.{Seat}
 use Rattle.gs_plain.specs.declared.books.Seat.TheVariants.{Idle, Writing, Patching, Reading, ReadingAll}
 use Rattle.gs_plain.specs.declared.stores.PlainStore.TheInside.{Inside}
-use Rattle.gs_plain.specs.Books.{staged_by, dataset_of, totals_of, seat_shown, will_commit, IsKnown, KeepsRows}
+use Rattle.gs_plain.specs.LastWrites.{names_written}
+use Rattle.gs_plain.specs.Books.{staged_by, dataset_of, books_setting, totals_of, seat_shown, will_commit, IsKnown, KeepsRows}
 use Rattle.gs_plain.specs.Actions.{Acts, HasRowRoom, KeepsRoom}
 use Rattle.gs_plain.specs.Kept.{shown_of, IsKept}
 
@@ -35,16 +39,16 @@ view_of_fields a = (shown_of a).view
 -- rows that keep what they had change nothing of what a known read shows
 same_shown : (commit : ℕ) (old new : List Row) (s : Seat) → KeepsRows commit old new → IsKnown commit old s → seat_shown new s ≡ seat_shown old s
 same_shown commit old new Idle keeps h = refl
-same_shown commit old new (Writing k r g) keeps h = refl
-same_shown commit old new (Patching t r) keeps h = refl
+same_shown commit old new (Writing k r g since) keeps h = refl
+same_shown commit old new (Patching t r since) keeps h = refl
 same_shown commit old new (Reading None given pin) keeps h = refl
 same_shown commit old new (Reading (Some i) given pin) keeps h = ap (λ lines. phase.Reading (drop given lines)) (keeps.same i h)
 same_shown commit old new (ReadingAll given pin) keeps h = ap (λ m. phase.Reading (drop given (quads_of m))) (keeps.past pin h.0)
 
 still_known : (commit later : ℕ) (old new : List Row) (s : Seat) → commit ≤ later → KeepsRows commit old new → IsKnown commit old s → IsKnown later new s
 still_known commit later old new Idle le keeps h = h
-still_known commit later old new (Writing k r g) le keeps h = h
-still_known commit later old new (Patching t r) le keeps h = h
+still_known commit later old new (Writing k r g since) le keeps h = h
+still_known commit later old new (Patching t r since) le keeps h = h
 still_known commit later old new (Reading None given pin) le keeps h = h
 still_known commit later old new (Reading (Some i) given pin) le keeps h = omega (arith, keeps.grows)
 still_known commit later old new (ReadingAll given pin) le keeps h = (omega (arith, h.0), rw (keeps.past pin h.0) h.1)
@@ -56,8 +60,13 @@ all_same_shown commit old new (s ∷ seats) keeps h =
     let rest = all_same_shown commit old new seats keeps h.1 in
     λ i. here i ∷ rest i
 
-no_earlier : (old new : ℕ) (b : Bool) → new ≡ old + cond b 1 0 → old ≤ new
-no_earlier old new b e = omega arith
+no_earlier : (w : Setting) (m : State) (o : Option Asked) → m.commit ≤ (after_asked w m o).commit
+no_earlier w m None = omega arith
+no_earlier w m (Some q) =
+    elim (is_late m q.since q.operation) as (λ b. m.commit ≤ (cond b m (done_by w m q.operation)).commit) [
+      | true ↦ omega arith
+      | false ↦ omega arith
+    ]
 
 others_few : (seats : List Seat) (i : ℕ) → i < length seats → count_by will_commit (slice_set seats i Idle) < length seats
 others_few [] i h = absurd (omega arith)
@@ -82,7 +91,7 @@ pub kept_after : (a b : Inside) (i : ℕ) (was now : Seat) (action : Action) (an
 kept_after a b i was now action answer within is seats acts room kept =
     let xs = a.seats.items in
     let old_rows = a.books.rows.items in
-    let since = no_earlier a.books.commit b.books.commit (is_written answer) (ap (λ (v : Totals). v.commit) acts.totals) in
+    let since : a.books.commit ≤ b.books.commit = rw (ap (λ (v : Totals). v.commit) acts.totals) (no_earlier (books_setting a.books) (state_of (totals_of a.books)) (operation_of (seat_shown old_rows was) action answer)) in
     let known : All (IsKnown b.books.commit b.books.rows.items) xs = λ k d lt. still_known a.books.commit b.books.commit old_rows b.books.rows.items (get_or xs k d) since acts.rows (kept.known k d lt) in
     let others = count_by will_commit (slice_set xs i Idle) in
     let idle : others + cond (will_commit (get_or xs i was)) 1 0 ≡ count_by will_commit xs + 0 = sum_by-set (λ x. cond (will_commit x) 1 0) xs i Idle was within in
@@ -128,11 +137,12 @@ idle_shown a zero = refl
 idle_shown a (suc n) = ap (λ ss. phase.Idle ∷ ss) (idle_shown (a + 1) n)
 
 -- a store without rows, whose seats are idle
-pub fresh_view : (a : Inside) (seats : ℕ) → a.books.rows.items ≡ [] → a.seats.items ≡ replicate seats Idle → view_of_fields a ≡ view_of (record { seats = seats; setting = record { base = string_bytes a.books.base; limits = a.books.limits }; request = a.books.request; commit = a.books.commit }) []
-fresh_view a seats rows idle =
+pub fresh_view : (a : Inside) (seats : ℕ) → a.books.rows.items ≡ [] → a.seats.items ≡ replicate seats Idle → a.books.default_write ≡ a.books.commit → a.books.last_removal ≡ a.books.commit → view_of_fields a ≡ view_of (record { seats = seats; setting = record { base = string_bytes a.books.base; limits = a.books.limits }; request = a.books.request; commit = a.books.commit }) []
+fresh_view a seats rows idle unnamed removed =
     let dataset : dataset_of a.books.rows.items ≡ empty_dataset = ap dataset_of rows in
+    let named : names_written a.books.rows.items ≡ names_written [] = ap names_written rows in
     let shown : map (seat_shown a.books.rows.items) a.seats.items ≡ map idle_view (range_with_len 0 seats) = rw (rows, idle) (idle_shown 0 seats) in
-    λ i. record { totals = record { setting = record { base = string_bytes a.books.base; limits = a.books.limits }; dataset = dataset i; request = sym (add-zero a.books.request) i; commit = sym (add-zero a.books.commit) i }; seats = shown i }
+    λ i. record { totals = record { setting = record { base = string_bytes a.books.base; limits = a.books.limits }; dataset = dataset i; request = sym (add-zero a.books.request) i; commit = a.books.commit; last_writes = record { unnamed = unnamed i; named = named i; removed = removed i } }; seats = shown i }
 
 none_writing : (n : ℕ) → count_by will_commit (replicate n Idle) ≡ 0
 none_writing n = let e : count_by will_commit (replicate n Idle) ≡ n * 0 = sum_by-replicate (λ (s : Seat). cond (will_commit s) 1 0) n Idle in omega (arith, e)
@@ -162,8 +172,8 @@ fresh_kept a seats rows len idle triples names staged base = record {
 -- what the seat has open: the triples of its upload, and a record of an upload or a patch
 held_shown : (rows : List Row) (s : Seat) → held_at (seat_shown rows s) ≡ staged_by s + cond (will_commit s) 1 0
 held_shown rows Idle = refl
-held_shown rows (Writing k r g) = refl
-held_shown rows (Patching t r) = refl
+held_shown rows (Writing k r g since) = refl
+held_shown rows (Patching t r since) = refl
 held_shown rows (Reading row given pin) = refl
 held_shown rows (ReadingAll given pin) = refl
 

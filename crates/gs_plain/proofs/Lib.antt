@@ -1,5 +1,6 @@
 pub mod CommitLemmas
 pub mod KeptLemmas
+pub mod LastWriteLemmas
 pub mod PastLemmas
 pub mod PinLemmas
 pub mod PostLemmas

@@ -36,7 +36,8 @@ same_end v commit later m row stays =
     let ends : is_by v (Some commit) ≡ is_by v row.ended = not_at_most commit v later ∙ sym (ap (is_by v) stays) in
     ap (λ b. cond (nat_lt v row.birth) m (cond b (without_graph m row.target) (with_graph m row.target row.graph))) ends
 
-same_row : (r row : Row) → Some r ≡ Some row → r ≡ row
+-- what is there is one row
+pub same_row : (r row : Row) → Some r ≡ Some row → r ≡ row
 same_row r row e = ap (λ (o : Option Row). elim o [ None ↦ r | Some x ↦ x ]) e
 
 end_from : (v commit : ℕ) → v < commit → (m : Dataset) (rows : List Row) (i : ℕ) (row : Row) → slice_get rows i ≡ Some row → row.ended ≡ None

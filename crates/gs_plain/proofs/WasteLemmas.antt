@@ -14,7 +14,8 @@ use Rattle.gs_event.specs.declared.answers.Answer.TheVariants.{Status, Cancelled
 use Rattle.gs_event.specs.Waste.{Lifetime, Shown}
 use Rattle.gs_event.specs.Phases.{Writing, Patching}
 use Rattle.gs_event.specs.Views.{Totals, SeatView}
-use Rattle.gs_event.specs.Steps.{Joins, JoinsBoth, UploadNodes, UpdateNodes, DeleteNodes, WastesNodes, UploadRecords, UpdateRecords, DeleteRecords, WastesRecords, WastesIf, Wastes}
+use Rattle.gs_event.specs.Wasting.{Joins, JoinsBoth, UploadNodes, UpdateNodes, DeleteNodes, WastesNodes, UploadRecords, UpdateRecords, DeleteRecords, WastesRecords, WastesIf}
+use Rattle.gs_event.specs.Steps.{Wastes}
 
 none_joined : (Has : Lifetime → Type 0) (most : ℕ) (old new : List Lifetime) → old ≡ [] → new ≡ [] → Joins Has most old new
 none_joined Has most old new before after = record {
@@ -24,8 +25,8 @@ none_joined Has most old new before after = record {
   ended = λ k d lt. absurd (omega arith);
 }
 
-none_both : (last unreached ended : ℕ) (old new : List Lifetime) → old ≡ [] → new ≡ [] → JoinsBoth last unreached ended old new
-none_both last unreached ended old new before after = record {
+none_both : (Has : Lifetime → Type 0) (unreached ended : ℕ) (old new : List Lifetime) → old ≡ [] → new ≡ [] → JoinsBoth Has unreached ended old new
+none_both Has unreached ended old new before after = record {
   between = [];
   unused = none_joined _ _ old [] before refl;
   replaced = none_joined _ _ [] new refl after;
@@ -48,10 +49,10 @@ none_delete_nodes v t true old new before after = none_joined _ _ old new before
 none_delete_nodes v t false old new before after = after ∙ sym before
 
 none_nodes : (v : Totals) (p : SeatView) (action : Action) (a : Answer) (old new : List Lifetime) → old ≡ [] → new ≡ [] → WastesNodes v p action a old new
-none_nodes v (Writing k r g) Commit (Status s name) old new before after = none_upload_nodes v k g _ old new before after
-none_nodes v (Patching t r) (CommitPatch ops) (Status s name) old new before after = none_update_nodes v t ops.items _ old new before after
-none_nodes v p (Delete t) (Status s name) old new before after = none_delete_nodes v t _ old new before after
-none_nodes v (Writing k r g) Cancel Cancelled old new before after = none_joined _ _ old new before after
+none_nodes v (Writing k r g since) Commit (Status s name number) old new before after = none_upload_nodes v k g _ old new before after
+none_nodes v (Patching t r since) (CommitPatch ops) (Status s name number) old new before after = none_update_nodes v t ops.items _ old new before after
+none_nodes v p (Delete t since) (Status s name number) old new before after = none_delete_nodes v t _ old new before after
+none_nodes v (Writing k r g since) Cancel Cancelled old new before after = none_joined _ _ old new before after
 none_nodes v p action a old new before after = after ∙ sym before
 
 none_upload_records : (v : Totals) (k : UploadKind) (g : Graph) (done : Bool) (old new : List Lifetime) → old ≡ [] → new ≡ [] → UploadRecords v k g done old new
@@ -59,7 +60,7 @@ none_upload_records v (Put t) g true old new before after = none_both _ _ _ old 
 none_upload_records v (Put t) g false old new before after = none_joined _ _ old new before after
 none_upload_records v (Post t) g true old new before after = none_both _ _ _ old new before after
 none_upload_records v (Post t) g false old new before after = none_joined _ _ old new before after
-none_upload_records v New g true old new before after = none_both _ _ _ old new before after
+none_upload_records v New g true old new before after = none_joined _ _ old new before after
 none_upload_records v New g false old new before after = none_joined _ _ old new before after
 
 none_update_records : (v : Totals) (t : Target) (ops : List Op) (done : Bool) (old new : List Lifetime) → old ≡ [] → new ≡ [] → UpdateRecords v t ops done old new
@@ -71,11 +72,11 @@ none_delete_records v t true old new before after = none_joined _ _ old new befo
 none_delete_records v t false old new before after = after ∙ sym before
 
 none_records : (v : Totals) (p : SeatView) (action : Action) (a : Answer) (old new : List Lifetime) → old ≡ [] → new ≡ [] → WastesRecords v p action a old new
-none_records v (Writing k r g) Commit (Status s name) old new before after = none_upload_records v k g _ old new before after
-none_records v (Patching t r) (CommitPatch ops) (Status s name) old new before after = none_update_records v t ops.items _ old new before after
-none_records v p (Delete t) (Status s name) old new before after = none_delete_records v t _ old new before after
-none_records v (Writing k r g) Cancel Cancelled old new before after = none_joined _ _ old new before after
-none_records v (Patching t r) Cancel Cancelled old new before after = none_joined _ _ old new before after
+none_records v (Writing k r g since) Commit (Status s name number) old new before after = none_upload_records v k g _ old new before after
+none_records v (Patching t r since) (CommitPatch ops) (Status s name number) old new before after = none_update_records v t ops.items _ old new before after
+none_records v p (Delete t since) (Status s name number) old new before after = none_delete_records v t _ old new before after
+none_records v (Writing k r g since) Cancel Cancelled old new before after = none_joined _ _ old new before after
+none_records v (Patching t r since) Cancel Cancelled old new before after = none_joined _ _ old new before after
 none_records v p action a old new before after = after ∙ sym before
 
 none_at : (v : Totals) (p : Option SeatView) (action : Action) (a : Answer) (old new : List Lifetime) → old ≡ [] → new ≡ [] → WastesIf v p action a old new

@@ -64,7 +64,8 @@ past_others : (t : Target) (o : Option Graph) (rs : List Row) → AreOthers t rs
 past_others t o [] h = refl
 past_others t o (r ∷ rs) h = ap (λ b. fold_at t (cond b (cond (is_some r.ended) (graph_at empty_dataset t) (Some r.graph)) o) rs) h.0 ∙ past_others t o rs h.1
 
-set_parts : (before : List Row) (row new : Row) (later : List Row) → slice_set (before ++ row ∷ later) (length before) new ≡ before ++ new ∷ later
+-- a row in the place of another
+pub set_parts : (before : List Row) (row new : Row) (later : List Row) → slice_set (before ++ row ∷ later) (length before) new ≡ before ++ new ∷ later
 set_parts [] row new later = refl
 set_parts (r ∷ before) row new later = ap (λ rs. r ∷ rs) (set_parts before row new later)
 

@@ -20,6 +20,7 @@ use Rattle.gs_plain.specs.declared.books.Books.{Books}
 use Rattle.gs_plain.specs.declared.books.Seat.{Seat}
 use Rattle.gs_plain.specs.declared.books.Seat.TheVariants.{Idle, Writing, Patching, Reading, ReadingAll}
 use Rattle.gs_plain.specs.Past.{dataset_at, AreBy}
+use Rattle.gs_plain.specs.LastWrites.{last_writes_of}
 
 -- each row is a write, and an ended one a removal: the newest row of a target is its graph
 abbrev pub after_row : Dataset → Row → Dataset
@@ -42,8 +43,8 @@ row_lines rows (Some i) = lines_of_row (slice_get rows i)
 -- a seat as it is seen: a read is the lines of its row, or of the dataset as it was at its pin, after those that were given
 abbrev pub seat_shown : List Row → Seat → SeatView
 seat_shown rows Idle = phase.Idle
-seat_shown rows (Writing k r g) = phase.Writing k r g
-seat_shown rows (Patching t r) = phase.Patching t r
+seat_shown rows (Writing k r g since) = phase.Writing k r g since
+seat_shown rows (Patching t r since) = phase.Patching t r since
 seat_shown rows (Reading row given pin) = phase.Reading (drop given (row_lines rows row))
 seat_shown rows (ReadingAll given pin) = phase.Reading (drop given (quads_of (dataset_at pin rows)))
 
@@ -51,13 +52,14 @@ seat_shown rows (ReadingAll given pin) = phase.Reading (drop given (quads_of (da
 abbrev pub books_setting : Books → Setting
 books_setting b = record { base = string_bytes b.base; limits = b.limits }
 
--- the setting, the dataset and the numbers given out
+-- the setting, the dataset, the numbers given out and those of the last writes
 abbrev pub totals_of : Books → Totals
 totals_of b = record {
   setting = books_setting b;
   dataset = dataset_of b.rows.items;
   request = b.request;
   commit = b.commit;
+  last_writes = last_writes_of b;
 }
 
 -- a target's graph, where it is not missing
@@ -90,15 +92,15 @@ ChangesBy b t g verdict = DecidesChange (books_setting b) (dataset_of b.rows.ite
 
 -- whether the seat has an open upload or an open patch, whose commit may make a row
 abbrev pub will_commit : Seat → Bool
-will_commit (Writing k r g) = true
-will_commit (Patching t r) = true
+will_commit (Writing k r g since) = true
+will_commit (Patching t r since) = true
 will_commit s = false
 
 -- how many triples the seat's open upload has
 abbrev pub staged_by : Seat → ℕ
 staged_by Idle = 0
-staged_by (Writing k r g) = size_of g
-staged_by (Patching t r) = 0
+staged_by (Writing k r g since) = size_of g
+staged_by (Patching t r since) = 0
 staged_by (Reading row given pin) = 0
 staged_by (ReadingAll given pin) = 0
 

@@ -5,12 +5,15 @@ use Rattle.std.specs.List.{slice_get, slice_set}
 use Rattle.gs_model.specs.Graphs.{Graph, size_of}
 use Rattle.gs_term.specs.declared.names.Target.{Target}
 use Rattle.gs_event.specs.Datasets.{with_graph, without_graph, size_at, triples_in, names_in}
+use Rattle.gs_event.specs.Conditions.{with_write, with_delete}
 use Rattle.gs_plain.specs.declared.books.Row.{Row}
 use Rattle.gs_plain.specs.declared.books.Books.{Books}
 use Rattle.gs_plain.specs.Books.{dataset_of, KeepsRows}
 use Rattle.gs_plain.specs.Past.{AreBy}
+use Rattle.gs_plain.specs.LastWrites.{last_writes_of}
 
--- what is kept of the books by a write: all but the dataset, its counts and the commit number. No row is of a later one
+-- what is kept of the books by a write: all but the dataset, its counts, the commit number and those of the last writes. No row
+-- is of a later commit
 pub record KeepsBooks (old new : Books) : Type 0 where
   pub rows : KeepsRows old.commit old.rows.items new.rows.items
   pub staged : new.staged ≡ old.staged
@@ -28,6 +31,7 @@ pub record PutsVersion (old new : Books) (t : Target) (g : Graph) : Type 0 where
   pub triples : new.triples ≡ triples_in (dataset_of new.rows.items)
   pub moved : new.triples + size_at (dataset_of old.rows.items) t ≡ old.triples + size_of g
   pub names : new.names ≡ names_in (dataset_of new.rows.items)
+  pub last_writes : last_writes_of new ≡ with_write (last_writes_of old) (old.commit + 1) t
   pub one_more : vec_len new.rows ≡ vec_len old.rows + 1
 
 -- the row, marked as ended by this commit
@@ -45,4 +49,5 @@ pub record EndsVersion (old new : Books) (t : Target) : Type 0 where
   pub triples : new.triples ≡ triples_in (dataset_of new.rows.items)
   pub fewer : new.triples ≤ old.triples
   pub names : new.names ≡ names_in (dataset_of new.rows.items)
+  pub last_writes : last_writes_of new ≡ with_delete (last_writes_of old) (old.commit + 1) t
   pub as_many : vec_len new.rows ≡ vec_len old.rows

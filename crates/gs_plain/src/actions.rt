@@ -28,12 +28,12 @@ pub fn act(
     ensures room { KeepsRoom seats books.old books.new seat.old seat.new }
 {
     match action {
-        Action::Open(kind) => open(books, seat, seats, alloc, kind),
-        Action::OpenPatch(target) => patches::open(books, seat, seats, target),
+        Action::Open(kind, since) => open(books, seat, seats, alloc, kind, *since),
+        Action::OpenPatch(target, since) => patches::open(books, seat, seats, target, *since),
         Action::Stage(triples) => stage(books, seat, alloc, triples),
         Action::Commit => writes::commit(books, seat, alloc),
         Action::CommitPatch(operations) => patches::commit(books, seat, alloc, operations),
-        Action::Delete(target) => writes::delete(books, seat, target),
+        Action::Delete(target, since) => writes::delete(books, seat, target, *since),
         Action::Head(scope) => reads::head(books, seat, scope),
         Action::Pin(scope) => reads::pin(books, seat, scope),
         Action::Piece(count) => reads::piece(books, seat, alloc, *count),
@@ -48,9 +48,10 @@ fn open(
     seats: usize,
     alloc: Global,
     kind: &UploadKind,
+    since: Option<u64>,
 ) -> Answer
     requires { IsReady books.old seat.old }
-    ensures acts { Acts books.old books.new seat.old seat.new (Action.Open kind.now) result }
+    ensures acts { Acts books.old books.new seat.old seat.new (Action.Open kind.now since) result }
     ensures room { KeepsRoom seats books.old books.new seat.old seat.new }
 {
     let Seat::Idle = seat else {
@@ -66,7 +67,7 @@ fn open(
         return Answer::Refused(Refusal::NoMemory);
     }
     books.request += 1;
-    *seat = Seat::Writing(kept, books.request, SortedGraph::new(alloc));
+    *seat = Seat::Writing(kept, books.request, SortedGraph::new(alloc), since);
     Answer::Opened(books.request)
 }
 
@@ -77,7 +78,7 @@ fn stage(books: &mut Books, seat: &mut Seat, alloc: Global, triples: &Vec<Triple
     ensures acts { Acts books.old books.new seat.old seat.new (Action.Stage triples.now) result }
     ensures room { HoldsRoom books.old books.new seat.old seat.new }
 {
-    let Seat::Writing(_, _, graph) = seat else {
+    let Seat::Writing(_, _, graph, _) = seat else {
         return Answer::Refused(Refusal::WrongPhase);
     };
     let others = books.staged - graph.len() as u64;
@@ -98,8 +99,8 @@ fn cancel(books: &mut Books, seat: &mut Seat) -> Answer
 {
     match seat {
         Seat::Idle => return Answer::Refused(Refusal::WrongPhase),
-        Seat::Writing(_, _, graph) => books.staged -= graph.len() as u64,
-        Seat::Patching(_, _) | Seat::Reading(_, _, _) | Seat::ReadingAll(_, _) => {}
+        Seat::Writing(_, _, graph, _) => books.staged -= graph.len() as u64,
+        Seat::Patching(_, _, _) | Seat::Reading(_, _, _) | Seat::ReadingAll(_, _) => {}
     }
     *seat = Seat::Idle;
     Answer::Cancelled

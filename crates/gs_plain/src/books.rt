@@ -6,6 +6,7 @@ ghost use Rattle.gs_plain.specs.Books.{dataset_of, will_commit as will_commit_of
 ghost use Rattle.gs_plain.specs.Versions.{PutsVersion, EndsVersion, EndsRow};
 ghost use Rattle.gs_plain.specs.Newest.{NewestRow};
 
+use crate::last_writes::{default_after, removal_after};
 use gs_event::{Limits, UploadKind};
 use gs_graphs::SortedGraph;
 use gs_term::Target;
@@ -25,10 +26,10 @@ pub struct Row {
 #[derive(Debug, Drop)]
 pub enum Seat {
     Idle,
-    /// An upload: what it will do, its request number, and what was staged.
-    Writing(UploadKind, u64, SortedGraph),
-    /// A patch of this target's graph, and its request number.
-    Patching(Target, u64),
+    /// An upload: what it will do, its request number, what was staged, and its condition.
+    Writing(UploadKind, u64, SortedGraph, Option<u64>),
+    /// A patch of this target's graph, its request number, and its condition.
+    Patching(Target, u64, Option<u64>),
     /// A read: the row that it reads (none for an empty default graph), how many lines were given,
     /// and the last commit number at its pin.
     Reading(Option<usize>, usize, u64),
@@ -52,6 +53,10 @@ pub struct Books {
     pub names: u64,
     /// Triples of open uploads.
     pub staged: u64,
+    /// The number of the last commit that wrote or deleted the default graph; at first that of the start.
+    pub default_write: u64,
+    /// The number of the last Delete of a name; at first that of the start.
+    pub last_removal: u64,
     /// The oldest first.
     pub rows: Vec<Row>,
 }
@@ -103,7 +108,7 @@ pub fn record_count(books: &Books) -> u64
 fn will_commit(seat: &Seat) -> bool
     ensures { result ≡ will_commit_of seat.now }
 {
-    matches!(seat, Seat::Writing(_, _, _) | Seat::Patching(_, _))
+    matches!(seat, Seat::Writing(_, _, _, _) | Seat::Patching(_, _, _))
 }
 
 /// How many seats have one.
@@ -127,6 +132,7 @@ pub fn put_version(books: &mut Books, target: Target, graph: SortedGraph, triple
     books.triples = triples;
     books.names = names;
     books.commit += 1;
+    books.default_write = default_after(books.default_write, &target, books.commit);
     books.rows.push_reserved(Row {
         target,
         graph,
@@ -158,6 +164,8 @@ pub fn end_version(books: &mut Books, target: &Target, triples: u64, names: u64)
     books.triples = triples;
     books.names = names;
     books.commit += 1;
+    books.default_write = default_after(books.default_write, target, books.commit);
+    books.last_removal = removal_after(books.last_removal, target, books.commit);
     let Some(i) = newest(books.rows.as_slice(), target) else {
         return;
     };

@@ -3,6 +3,7 @@
 
 mod actions;
 mod books;
+mod last_writes;
 mod names;
 mod patches;
 mod quads;

@@ -9,6 +9,7 @@ ghost use Rattle.gs_plain.specs.Actions.{IsReady, Acts, CommitsPatch, KeepsRoom,
 
 use crate::actions::MAX_NODES;
 use crate::books::{self, Books, Seat};
+use crate::last_writes::late_write;
 use crate::verdicts::verdict_on_change;
 use gs_event::{Answer, Op, Verdict};
 use gs_graphs::{SortedGraph, update};
@@ -18,9 +19,15 @@ use std::alloc::{AllocError, Global};
 use std::mem;
 
 /// Makes room for the row of the patched graph.
-pub fn open(books: &mut Books, seat: &mut Seat, seats: usize, target: &Target) -> Answer
+pub fn open(
+    books: &mut Books,
+    seat: &mut Seat,
+    seats: usize,
+    target: &Target,
+    since: Option<u64>,
+) -> Answer
     requires { IsReady books.old seat.old }
-    ensures acts { Acts books.old books.new seat.old seat.new (OpenPatch target.now) result }
+    ensures acts { Acts books.old books.new seat.old seat.new (OpenPatch target.now since) result }
     ensures room { KeepsRoom seats books.old books.new seat.old seat.new }
 {
     let Seat::Idle = seat else {
@@ -36,7 +43,7 @@ pub fn open(books: &mut Books, seat: &mut Seat, seats: usize, target: &Target) -
         return Answer::Refused(Refusal::NoMemory);
     }
     books.request += 1;
-    *seat = Seat::Patching(kept, books.request);
+    *seat = Seat::Patching(kept, books.request, since);
     Answer::Opened(books.request)
 }
 
@@ -48,8 +55,8 @@ pub fn commit(books: &mut Books, seat: &mut Seat, alloc: Global, operations: &Ve
     ensures room { HoldsRoom books.old books.new seat.old seat.new }
 {
     match mem::replace(seat, Seat::Idle) {
-        Seat::Patching(target, request) => {
-            commit_at(books, seat, alloc, target, request, operations)
+        Seat::Patching(target, request, since) => {
+            commit_at(books, seat, alloc, target, request, since, operations)
         }
         other => {
             *seat = other;
@@ -65,31 +72,35 @@ fn commit_at(
     alloc: Global,
     target: Target,
     request: u64,
+    since: Option<u64>,
     operations: &Vec<Op>,
 ) -> Answer
-    requires ready { IsReady books.old (Patching target request) }
+    requires ready { IsReady books.old (Patching target request since) }
     requires room { vec_len books.old.rows < vec_capacity books.old.rows }
     requires idle { seat.old ≡ Seat.Idle }
-    ensures acts { CommitsPatch books.old books.new target request seat.new operations.now result }
-    ensures room { HoldsRoom books.old books.new (Patching target request) seat.new }
+    ensures acts { CommitsPatch books.old books.new target request since seat.new operations.now result }
+    ensures room { HoldsRoom books.old books.new (Patching target request since) seat.new }
 {
     if !books::is_there(books.rows.as_slice(), &target) {
-        return Answer::Status(404, None);
+        return Answer::Status(404, None, books.commit);
+    }
+    if let Some(write) = late_write(books, &target, since) {
+        return Answer::Status(412, None, write);
     }
     let Ok(graph) = patched(books, alloc, &target, operations.as_slice()) else {
-        *seat = Seat::Patching(target, request);
+        *seat = Seat::Patching(target, request, since);
         return Answer::Refused(Refusal::NoMemory);
     };
     match verdict_on_change(books, &target, &graph) {
         Verdict::Missing => unreachable!(),
-        Verdict::Full => Answer::Status(507, None),
+        Verdict::Full => Answer::Status(507, None, books.commit),
         Verdict::LastNumber => {
-            *seat = Seat::Patching(target, request);
+            *seat = Seat::Patching(target, request, since);
             Answer::Refused(Refusal::LastNumber)
         }
         Verdict::Granted(status, triples, names) => {
             books::put_version(books, target, graph, triples, names);
-            Answer::Status(status, None)
+            Answer::Status(status, None, books.commit)
         }
     }
 }

@@ -34,7 +34,7 @@ pub fn head(books: &mut Books, seat: &mut Seat, scope: &Scope) -> Answer
         return Answer::Refused(Refusal::WrongPhase);
     };
     let there = has(books.rows.as_slice(), scope);
-    Answer::Status(if there { 200 } else { 404 }, None)
+    Answer::Status(if there { 200 } else { 404 }, None, books.commit)
 }
 
 /// Begins a read of the scope at the seat, if it is idle. Takes no memory.
@@ -59,7 +59,7 @@ fn pin_all(books: &mut Books, seat: &mut Seat) -> Answer
         return Answer::Refused(Refusal::WrongPhase);
     };
     *seat = Seat::ReadingAll(0, books.commit);
-    Answer::Pinned(200)
+    Answer::Pinned(200, books.commit)
 }
 
 /// The same of one graph.
@@ -73,10 +73,10 @@ fn pin_one(books: &mut Books, seat: &mut Seat, target: &Target) -> Answer
     };
     let row = books::newest(books.rows.as_slice(), target);
     if row.is_none() && !matches!(target, Target::Default) {
-        return Answer::Pinned(404);
+        return Answer::Pinned(404, books.commit);
     }
     *seat = Seat::Reading(row, 0, books.commit);
-    Answer::Pinned(200)
+    Answer::Pinned(200, books.commit)
 }
 
 /// At most `count` lines more of the seat's read, which ends where none are left.

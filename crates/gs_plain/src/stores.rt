@@ -66,6 +66,8 @@ impl PlainStore {
             triples: 0,
             names: 0,
             staged: 0,
+            default_write: commit,
+            last_removal: commit,
             rows: Vec::new(alloc),
         };
         Ok(PlainStore {

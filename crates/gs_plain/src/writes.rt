@@ -1,14 +1,17 @@
 //! Writes: the commits of uploads, and deletes.
-ghost use Rattle.std.specs.Prelude.{◌≡◌, ◌<◌, ◌≤◌, ◌+◌, IsTrue, IfOk, length, vec_len, vec_capacity};
+ghost use Rattle.std.specs.Prelude.{◌≡◌, ◌<◌, ◌≤◌, ◌+◌, false, IsTrue, IfOk, length, vec_len, vec_capacity};
 ghost use Rattle.gs_model.specs.Graphs.{size_of};
+ghost use Rattle.gs_event.specs.Conditions.{is_above};
 ghost use Rattle.gs_event.specs.Operations.{united};
 ghost use Rattle.gs_event.specs.declared.events.Action.TheVariants.{Commit, Delete};
 ghost use Rattle.gs_event.specs.declared.events.UploadKind.TheVariants.{Put, Post, New};
 ghost use Rattle.gs_plain.specs.declared.books.Seat.TheVariants.{Writing};
 ghost use Rattle.gs_plain.specs.Books.{graph_now, size_now, will_commit};
-ghost use Rattle.gs_plain.specs.Actions.{IsReady, Acts, HoldsRoom};
+ghost use Rattle.gs_plain.specs.LastWrites.{last_write_by};
+ghost use Rattle.gs_plain.specs.Actions.{IsReady, Acts, CommitsUpload, HoldsRoom};
 
 use crate::books::{self, Books, Seat};
+use crate::last_writes::{late_upload, late_write};
 use crate::names;
 use crate::verdicts::{verdict_on_removal, verdict_on_store};
 use gs_event::{Answer, UploadKind, Verdict};
@@ -26,11 +29,19 @@ pub fn commit(books: &mut Books, seat: &mut Seat, alloc: Global) -> Answer
     ensures room { HoldsRoom books.old books.new seat.old seat.new }
 {
     match mem::replace(seat, Seat::Idle) {
-        Seat::Writing(kind, request, upload) => match kind {
-            UploadKind::Put(target) => commit_put(books, seat, target, request, upload),
-            UploadKind::Post(target) => commit_post(books, seat, alloc, target, request, upload),
-            UploadKind::New => commit_new(books, seat, alloc, request, upload),
-        },
+        Seat::Writing(kind, request, upload, since) => {
+            if let Some(write) = late_upload(books, &kind, since) {
+                books.staged -= upload.len() as u64;
+                return Answer::Status(412, None, write);
+            }
+            match kind {
+                UploadKind::Put(target) => commit_put(books, seat, target, request, upload, since),
+                UploadKind::Post(target) => {
+                    commit_post(books, seat, alloc, target, request, upload, since)
+                }
+                UploadKind::New => commit_new(books, seat, alloc, request, upload, since),
+            }
+        }
         other => {
             *seat = other;
             Answer::Refused(Refusal::WrongPhase)
@@ -45,28 +56,30 @@ fn commit_put(
     target: Target,
     request: u64,
     upload: SortedGraph,
+    since: Option<u64>,
 ) -> Answer
-    requires ready { IsReady books.old (Writing (Put target) request upload) }
+    requires ready { IsReady books.old (Writing (Put target) request upload since) }
+    requires in_time { is_above (last_write_by books.old target) since ≡ false }
     requires room { vec_len books.old.rows < vec_capacity books.old.rows }
     requires idle { seat.old ≡ Seat.Idle }
-    ensures acts { Acts books.old books.new (Writing (Put target) request upload) seat.new Commit result }
-    ensures room { HoldsRoom books.old books.new (Writing (Put target) request upload) seat.new }
+    ensures acts { CommitsUpload books.old books.new (Put target) request upload since seat.new result }
+    ensures room { HoldsRoom books.old books.new (Writing (Put target) request upload since) seat.new }
 {
     let staged = upload.len() as u64;
     match verdict_on_store(books, &target, &upload) {
         Verdict::Missing => unreachable!(),
         Verdict::Full => {
             books.staged -= staged;
-            Answer::Status(507, None)
+            Answer::Status(507, None, books.commit)
         }
         Verdict::LastNumber => {
-            *seat = Seat::Writing(UploadKind::Put(target), request, upload);
+            *seat = Seat::Writing(UploadKind::Put(target), request, upload, since);
             Answer::Refused(Refusal::LastNumber)
         }
         Verdict::Granted(status, triples, names) => {
             books::put_version(books, target, upload, triples, names);
             books.staged -= staged;
-            Answer::Status(status, None)
+            Answer::Status(status, None, books.commit)
         }
     }
 }
@@ -95,15 +108,17 @@ fn commit_post(
     target: Target,
     request: u64,
     upload: SortedGraph,
+    since: Option<u64>,
 ) -> Answer
-    requires ready { IsReady books.old (Writing (Post target) request upload) }
+    requires ready { IsReady books.old (Writing (Post target) request upload since) }
+    requires in_time { is_above (last_write_by books.old target) since ≡ false }
     requires room { vec_len books.old.rows < vec_capacity books.old.rows }
     requires idle { seat.old ≡ Seat.Idle }
-    ensures acts { Acts books.old books.new (Writing (Post target) request upload) seat.new Commit result }
-    ensures room { HoldsRoom books.old books.new (Writing (Post target) request upload) seat.new }
+    ensures acts { CommitsUpload books.old books.new (Post target) request upload since seat.new result }
+    ensures room { HoldsRoom books.old books.new (Writing (Post target) request upload since) seat.new }
 {
     let Ok(graph) = posted(books, alloc, &target, &upload) else {
-        *seat = Seat::Writing(UploadKind::Post(target), request, upload);
+        *seat = Seat::Writing(UploadKind::Post(target), request, upload, since);
         return Answer::Refused(Refusal::NoMemory);
     };
     let staged = upload.len() as u64;
@@ -111,16 +126,16 @@ fn commit_post(
         Verdict::Missing => unreachable!(),
         Verdict::Full => {
             books.staged -= staged;
-            Answer::Status(507, None)
+            Answer::Status(507, None, books.commit)
         }
         Verdict::LastNumber => {
-            *seat = Seat::Writing(UploadKind::Post(target), request, upload);
+            *seat = Seat::Writing(UploadKind::Post(target), request, upload, since);
             Answer::Refused(Refusal::LastNumber)
         }
         Verdict::Granted(status, triples, names) => {
             books::put_version(books, target, graph, triples, names);
             books.staged -= staged;
-            Answer::Status(status, None)
+            Answer::Status(status, None, books.commit)
         }
     }
 }
@@ -132,15 +147,16 @@ fn commit_new(
     alloc: Global,
     request: u64,
     upload: SortedGraph,
+    since: Option<u64>,
 ) -> Answer
-    requires ready { IsReady books.old (Writing New request upload) }
+    requires ready { IsReady books.old (Writing New request upload since) }
     requires room { vec_len books.old.rows < vec_capacity books.old.rows }
     requires idle { seat.old ≡ Seat.Idle }
-    ensures acts { Acts books.old books.new (Writing New request upload) seat.new Commit result }
-    ensures room { HoldsRoom books.old books.new (Writing New request upload) seat.new }
+    ensures acts { CommitsUpload books.old books.new New request upload since seat.new result }
+    ensures room { HoldsRoom books.old books.new (Writing New request upload since) seat.new }
 {
     let Ok((name, location)) = names::new_name_twice(books, alloc, request) else {
-        *seat = Seat::Writing(UploadKind::New, request, upload);
+        *seat = Seat::Writing(UploadKind::New, request, upload, since);
         return Answer::Refused(Refusal::NoMemory);
     };
     let target = Target::Named(name);
@@ -149,36 +165,41 @@ fn commit_new(
         Verdict::Missing => unreachable!(),
         Verdict::Full => {
             books.staged -= staged;
-            Answer::Status(507, None)
+            Answer::Status(507, None, books.commit)
         }
         Verdict::LastNumber => {
-            *seat = Seat::Writing(UploadKind::New, request, upload);
+            *seat = Seat::Writing(UploadKind::New, request, upload, since);
             Answer::Refused(Refusal::LastNumber)
         }
         Verdict::Granted(status, triples, names) => {
             books::put_version(books, target, upload, triples, names);
             books.staged -= staged;
-            Answer::Status(status, Some(location))
+            Answer::Status(status, Some(location), books.commit)
         }
     }
 }
 
 /// Takes no memory.
-pub fn delete(books: &mut Books, seat: &mut Seat, target: &Target) -> Answer
+pub fn delete(books: &mut Books, seat: &mut Seat, target: &Target, since: Option<u64>) -> Answer
     requires { IsReady books.old seat.old }
-    ensures acts { Acts books.old books.new seat.old seat.new (Delete target.now) result }
+    ensures acts { Acts books.old books.new seat.old seat.new (Delete target.now since) result }
     ensures room { HoldsRoom books.old books.new seat.old seat.new }
 {
     let Seat::Idle = seat else {
         return Answer::Refused(Refusal::WrongPhase);
     };
+    if !books::is_there(books.rows.as_slice(), target) {
+        return Answer::Status(404, None, books.commit);
+    }
+    if let Some(write) = late_write(books, target, since) {
+        return Answer::Status(412, None, write);
+    }
     match verdict_on_removal(books, target) {
-        Verdict::Missing => Answer::Status(404, None),
-        Verdict::Full => unreachable!(),
+        Verdict::Missing | Verdict::Full => unreachable!(),
         Verdict::LastNumber => Answer::Refused(Refusal::LastNumber),
         Verdict::Granted(status, triples, names) => {
             books::end_version(books, target, triples, names);
-            Answer::Status(status, None)
+            Answer::Status(status, None, books.commit)
         }
     }
 }

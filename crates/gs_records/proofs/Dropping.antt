@@ -15,7 +15,7 @@ use Rattle.gs_records.specs.Kept.{AreSingle}
 use Rattle.gs_records.specs.Reclaims.{IsUnneeded, StaysOrGoes}
 use Rattle.gs_records.specs.Sweeps.{Drops}
 use Rattle.gs_records.proofs.Lifetimes.{has_birth, has_lives, once_at, once_current}
-use Rattle.gs_records.proofs.Turning.{IsNoneOf, none_bare, graphs_turned}
+use Rattle.gs_records.proofs.Turning.{IsNoneOf, none_bare, graphs_turned, births_turned}
 use Rattle.gs_records.proofs.Sums.{waste_turned}
 
 -- what a seat has pinned a version of is needed
@@ -71,6 +71,7 @@ drops_none pins rs = record {
   each = λ m. inl refl;
   versions = λ s v p. refl;
   now = refl;
+  births = refl;
   gone = [];
   many = refl;
   same = λ f. omega arith;
@@ -86,6 +87,7 @@ drops_more pins k rs bs cs n d single turn u = record {
   ];
   versions = λ s v p. graphs_turned (has_at v) bs cs n free (once_at v bs single) turn (unneeded_had pins s v p (record_at bs n) u) (λ t. none_bare (has_at v) t free refl) ∙ d.versions s v p;
   now = graphs_turned is_current bs cs n free (once_current bs single) turn (unneeded_current pins (record_at bs n) u) (λ t. none_bare is_current t free refl) ∙ d.now;
+  births = births_turned bs cs n free (once_current bs single) turn (unneeded_current pins (record_at bs n) u) (λ t. none_bare is_current t free refl) ∙ d.births;
   gone = u.life ∷ d.gone;
   many = omega (arith, d.many);
   same = λ f. omega (arith, d.same f, waste_turned bs cs n free turn f, ap (sum_by f) u.only, sum_by-cons f u.life d.gone);

@@ -4,9 +4,11 @@ use Rattle.gs_term.specs.declared.names.Target.{Target}
 use Rattle.gs_index.specs.declared.entries.Entry.{Entry}
 use Rattle.gs_records.specs.Records.{Record, kept, record_at, has_at, is_current, ended_entry, ended, Ends}
 use Rattle.gs_records.specs.Graphs.{graphs_at, current, without_version}
+use Rattle.gs_records.specs.Births.{births_of, without_birth}
 use Rattle.gs_records.specs.Kept.{AreSingle, IsDated, AreDated, HasNoCurrent}
 use Rattle.gs_records.proofs.Same.{Agrees, graphs_agree, graphs_without}
-use Rattle.gs_records.proofs.Lifetimes.{target-ended, version-ended, has-ended, has_ended_had, current-ended, not_current, dated-ended, ended_is, once_at, once_current}
+use Rattle.gs_records.proofs.Births.{births_but}
+use Rattle.gs_records.proofs.Lifetimes.{target-ended, version-ended, birth-ended, has-ended, has_ended_had, current-ended, not_current, dated-ended, ended_is, once_at, once_current}
 
 module _ (old new : List Record) (t : Target) (death : ℕ) (ends : Ends old new t death) where
   -- what was a record after it was one before
@@ -24,6 +26,7 @@ module _ (old new : List Record) (t : Target) (death : ℕ) (ends : Ends old new
         let of : was.0.target ≡ u = sym (target-ended t death was.0) ∙ sym (ap (λ (x : Entry). x.target) was.2) ∙ f.same in (
           record { number = f.number; entry = was.0; at = was.1; passes = sym (same was.0 of) ∙ sym (ap test was.2) ∙ f.passes; same = of },
           sym (version-ended t death was.0) ∙ sym (ap (λ (x : Entry). x.version) was.2),
+          sym (birth-ended t death was.0) ∙ sym (ap (λ (x : Entry). x.birth) was.2),
         );
     back = λ g. record {
       number = g.number;
@@ -47,6 +50,12 @@ module _ (old new : List Record) (t : Target) (death : ℕ) (ends : Ends old new
   -- so it is without its version
   pub current-ended_records : AreSingle old → current new ≡ without_version (current old) t
   current-ended_records single = graphs_without is_current is_current new old t (once_current old single)
+      (λ f. none_current f.number f.entry f.at f.same f.passes)
+      (λ u ne. ended_agrees is_current u (λ e of. current-ended t death e (λ same. ne (sym of ∙ same))))
+
+  -- and without its birth
+  pub births-ended : AreSingle old → births_of new ≡ without_birth (births_of old) t
+  births-ended single = births_but new old t (once_current old single)
       (λ f. none_current f.number f.entry f.at f.same f.passes)
       (λ u ne. ended_agrees is_current u (λ e of. current-ended t death e (λ same. ne (sym of ∙ same))))
 

@@ -210,6 +210,7 @@ reclaimed pins n freed left x y p q w a b from to latest limit =
       each = drops.each;
       versions = drops.versions;
       now = drops.now;
+      births = drops.births;
       opens = opens_dropped pins a.records b.records drops.each;
       latest = latest;
       limit = limit;

@@ -57,10 +57,10 @@ cases_target t u = elim (cases_Bool (is_target t u)) [
 tied_name : (q n : List ℕ) → eq_by_cmp name_cmp q n ≡ true → q ≡ n
 tied_name q n e = name_exact q n (equal_is (name_cmp q n) e)
 
-itself_name : (n : List ℕ) → eq_by_cmp name_cmp n n ≡ true
+pub itself_name : (n : List ℕ) → eq_by_cmp name_cmp n n ≡ true
 itself_name n = ap is_eq (tied_itself name_total n)
 
-other_name : (q n : List ℕ) → (Named q ≢ Named n) → eq_by_cmp name_cmp q n ≡ false
+pub other_name : (q n : List ℕ) → (Named q ≢ Named n) → eq_by_cmp name_cmp q n ≡ false
 other_name q n ne = elim (cases_Bool (eq_by_cmp name_cmp q n)) [ inl here ↦ absurd (ne (ap Named (tied_name q n here))) | inr none ↦ none ]
 
 -- the version that was given to the target, and those of the others
@@ -98,14 +98,14 @@ pub data Looked (test : Entry → Bool) (rs : List Record) (t : Target) : Type 0
   has : (f : Found test rs t) → version_at (graphs_where test rs) t ≡ Some f.entry.version → Looked test rs t
   lacks : (Found test rs t → ⊥) → version_at (graphs_where test rs) t ≡ version_at no_versions t → Looked test rs t
 
-later : (test : Entry → Bool) (r : Record) (rs : List Record) (t : Target) → Found test rs t → Found test (r ∷ rs) t
+abbrev pub later : (test : Entry → Bool) (r : Record) (rs : List Record) (t : Target) → Found test rs t → Found test (r ∷ rs) t
 later test r rs t f = record { number = suc f.number; entry = f.entry; at = f.at; passes = f.passes; same = f.same }
 
 -- no record is found at the head
-abbrev NotHere : (Entry → Bool) → Record → Target → Type 0
+abbrev pub NotHere : (Entry → Bool) → Record → Target → Type 0
 NotHere test r t = (e : Entry) → r ≡ kept e → test e ≡ true → e.target ≡ t → ⊥
 
-not_in : (test : Entry → Bool) (r : Record) (rs : List Record) (t : Target) → NotHere test r t → (Found test rs t → ⊥) → Found test (r ∷ rs) t → ⊥
+pub not_in : (test : Entry → Bool) (r : Record) (rs : List Record) (t : Target) → NotHere test r t → (Found test rs t → ⊥) → Found test (r ∷ rs) t → ⊥
 not_in test r rs t here none f = go f.number f.entry f.at f.passes f.same
   where
     go : (n : ℕ) (e : Entry) → record_at (r ∷ rs) n ≡ kept e → test e ≡ true → e.target ≡ t → ⊥
@@ -113,7 +113,6 @@ not_in test r rs t here none f = go f.number f.entry f.at f.passes f.same
     go (suc n) e at p s = none (record { number = n; entry = e; at = at; passes = p; same = s })
 
 past : (test : Entry → Bool) (r : Record) (rs : List Record) (t : Target) → NotHere test r t → version_at (with_record test r (graphs_where test rs)) t ≡ version_at (graphs_where test rs) t → Looked test rs t → Looked test (r ∷ rs) t
-unfolding later
 past test r rs t here is (has f e) = has (later test r rs t f) (is ∙ e)
 past test r rs t here is (lacks none e) = lacks (not_in test r rs t here none) (is ∙ e)
 

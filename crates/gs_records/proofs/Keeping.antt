@@ -17,7 +17,7 @@ use Rattle.gs_records.specs.Calls.{KeepsGraphs, GivesUp}
 use Rattle.std.proofs.lemmas.List.Sums.{count_by-le-length}
 use Rattle.gs_records.specs.Stored.{is_made, records_of, records_by, HasNode, StandsForRecord, IsStored, ChangesOneNumber}
 use Rattle.gs_records.proofs.Lifetimes.{once_at, once_current}
-use Rattle.gs_records.proofs.Turning.{none_bare, graphs_turned, single_turned, dated_turned}
+use Rattle.gs_records.proofs.Turning.{none_bare, graphs_turned, births_turned, single_turned, dated_turned}
 use Rattle.gs_records.proofs.Sums.{gains_turned, uses_one}
 use Rattle.gs_records.proofs.Storing.{turns_stored, all_stand}
 
@@ -51,6 +51,7 @@ pub keeps_graphs : (old new : List Record) (n : ℕ) (r : Record) → AreSingle 
 keeps_graphs old new n r single turn was is = record {
   versions = λ v. graphs_turned (has_at v) old new n r (once_at v old single) turn (λ t. none_bare (has_at v) t (record_at old n) was) (λ t. none_bare (has_at v) t r is);
   now = graphs_turned is_current old new n r (once_current old single) turn (λ t. none_bare is_current t (record_at old n) was) (λ t. none_bare is_current t r is);
+  births = births_turned old new n r (once_current old single) turn (λ t. none_bare is_current t (record_at old n) was) (λ t. none_bare is_current t r is);
 }
 
 module _ (x y : Indexed) (p q : Nodes) (opens now latest n : ℕ) (r : Record) (s : IsStored x p opens latest) (c : ChangesOneNumber x y p q n r) where

@@ -1,20 +1,22 @@
 -- The graphs of now are those of the last commit, and one commit ends one record of a graph at most.
-use Rattle.std.proofs.Common.{◌≡◌, ℕ, suc, ◌<◌, ◌≤◌, Bool, true, false, cond, ◌&&◌, List, [], ◌∷◌, ◌++◌, length, refl, sym, ap, ◌∙◌, inl, inr, arith}
+use Rattle.std.proofs.Common.{◌≡◌, ℕ, suc, ◌<◌, ◌≤◌, Bool, true, false, cond, ◌&&◌, Option, Some, List, [], ◌∷◌, ◌++◌, length, refl, sym, ap, ◌∙◌, inl, inr, arith}
 use Rattle.std.specs.List.{All}
 use Rattle.std.proofs.lemmas.Bool.{cases_Bool}
 use Rattle.std.proofs.lemmas.List.Elements.{All-nil, All-cons}
 use Rattle.gs_term.specs.declared.names.Target.{Target}
 use Rattle.gs_event.specs.Waste.{Lifetime}
-use Rattle.gs_event.specs.Steps.{EndsAt}
+use Rattle.gs_event.specs.Wasting.{EndsAt}
 use Rattle.gs_index.specs.declared.entries.Entry.{Entry}
 use Rattle.gs_catalogue.specs.Catalogues.{version_at, with_version}
 use Rattle.gs_records.specs.Records.{Record, free, opened, unused, kept, record_at, has_at, is_of, is_current}
 use Rattle.gs_records.specs.Graphs.{graphs_where, graphs_at, current, with_record}
+use Rattle.gs_records.specs.Births.{birth_at, births_of}
 use Rattle.gs_records.specs.Kept.{AreSingle, AreDated, HasNoCurrent}
 use Rattle.gs_records.specs.Calls.{endings, is_nothing, records_for, EndsCurrent}
 use Rattle.gs_records.specs.Versions.{AreVersions}
 use Rattle.gs_records.specs.Laws.{IsOneAt}
 use Rattle.gs_records.proofs.Found.{Found, Looked, has, lacks, looked, target_same}
+use Rattle.gs_records.proofs.Births.{birth_found}
 use Rattle.gs_records.proofs.Lifetimes.{first_true, second_true, same_Bool, has_from, has_lives, lives_none, lives_past, once_current}
 
 -- the versions by two tests that say the same of each record
@@ -91,9 +93,25 @@ all_end latest commit t (kept e ∷ rs) d lt = go (all_end latest commit t rs (d
 pub commit_ends_one : (latest commit : ℕ) (t : Target) (rs : List Record) → AreSingle rs → AreDated latest rs → latest < commit → IsOneAt commit (endings t commit rs)
 commit_ends_one latest commit t rs single dated lt = record { few = one_ends t commit rs single; ended = all_end latest commit t rs dated lt }
 
+-- what is the birth of each current record of the graph is that of each that ends
+all_made : (o : Option ℕ) (t : Target) (death : ℕ) (rs : List Record) → ((n : ℕ) (e : Entry) → record_at rs n ≡ kept e → e.target ≡ t → is_current e ≡ true → o ≡ Some e.birth) → All (λ l. o ≡ Some l.birth) (endings t death rs)
+all_made o t death [] h = All-nil (λ l. o ≡ Some l.birth)
+all_made o t death (free ∷ rs) h = all_made o t death rs (λ n. h (suc n))
+all_made o t death (opened ∷ rs) h = all_made o t death rs (λ n. h (suc n))
+all_made o t death (unused ∷ rs) h = all_made o t death rs (λ n. h (suc n))
+all_made o t death (kept e ∷ rs) h = go (all_made o t death rs (λ n. h (suc n))) (is_of t e && is_current e) refl
+  where
+    go : All (λ l. o ≡ Some l.birth) (endings t death rs) → (b : Bool) → (is_of t e && is_current e) ≡ b → All (λ l. o ≡ Some l.birth) (left_by e death b ++ endings t death rs)
+    go rest true here = All-cons (λ l. o ≡ Some l.birth) _ _ (h 0 e refl (sym (target_same t e.target (first_true _ _ here))) (second_true _ _ here)) rest
+    go rest false off = rest
+
 -- it is the graph's current record, where there is one
 pub ends_current : (latest commit : ℕ) (t : Target) (rs : List Record) → AreSingle rs → AreDated latest rs → AreVersions rs → latest < commit → EndsCurrent rs t commit
-ends_current latest commit t rs single dated versions lt = record { few = go (looked is_current rs t); ended = all_end latest commit t rs dated lt }
+ends_current latest commit t rs single dated versions lt = record {
+  few = go (looked is_current rs t);
+  ended = all_end latest commit t rs dated lt;
+  made = all_made (birth_at (births_of rs) t) t commit rs (λ n e at same now. birth_found rs t (once_current rs single) (record { number = n; entry = e; at = at; passes = now; same = same }));
+}
   where
     go : Looked is_current rs t → length (endings t commit rs) ≤ records_for t (version_at (current rs) t)
     go (has f e) =

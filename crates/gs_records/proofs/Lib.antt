@@ -1,5 +1,6 @@
 pub mod Found
 pub mod Same
+pub mod Births
 pub mod Lifetimes
 pub mod Turning
 pub mod Ending

@@ -76,6 +76,13 @@ version-ended t death e = go (ended_cases t death e)
     go (ends s n is) = ap (λ (x : Entry). x.version) is
     go (stays h is) = ap (λ (x : Entry). x.version) is
 
+pub birth-ended : (t : Target) (death : ℕ) (e : Entry) → (ended_entry t death e).birth ≡ e.birth
+birth-ended t death e = go (ended_cases t death e)
+  where
+    go : EndedCases t death e → (ended_entry t death e).birth ≡ e.birth
+    go (ends s n is) = ap (λ (x : Entry). x.birth) is
+    go (stays h is) = ap (λ (x : Entry). x.birth) is
+
 -- versions before the death have it as before
 pub has-ended : (v : ℕ) (t : Target) (death : ℕ) (e : Entry) → v < death → has_at v (ended_entry t death e) ≡ has_at v e
 has-ended v t death e lt = go (ended_cases t death e)

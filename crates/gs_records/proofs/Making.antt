@@ -18,7 +18,7 @@ use Rattle.gs_records.specs.Calls.{Places}
 use Rattle.gs_records.specs.Stored.{is_made, records_by, StandsForRecord, IsStored, ChangesOneNumber}
 use Rattle.gs_records.proofs.Sums.{gains_turned, uses_one}
 use Rattle.gs_records.proofs.Storing.{turns_stored, all_stand}
-use Rattle.gs_records.proofs.Placing.{graphs_at-placed, single_placed, dated_placed, current-placed}
+use Rattle.gs_records.proofs.Placing.{graphs_at-placed, single_placed, dated_placed, current-placed, births-placed}
 use Rattle.gs_records.proofs.Listing.{listed_with, same_number}
 use Rattle.gs_records.proofs.Keeping.{stands_at, used_within}
 
@@ -107,6 +107,7 @@ module _ (x : Indexed) (p : Nodes) (opens latest n : ℕ) (s : IsStored x p open
           turns = turn;
           versions = λ w lt. graphs_at-placed a.records b.records n e turn (ap is_kept at) single dated refl no_current w lt;
           now = current-placed a.records b.records n e turn (ap is_kept at) single dated refl no_current;
+          births = births-placed a.records b.records n e turn (ap is_kept at) single dated refl no_current;
           waste = gains_turned a.records b.records n (kept e) opened at refl turn;
           counts = uses_one a.records b.records n (kept e) at refl refl turn;
           latest = same;

@@ -5,9 +5,11 @@ use Rattle.gs_catalogue.specs.Catalogues.{with_version}
 use Rattle.gs_index.specs.declared.entries.Entry.{Entry}
 use Rattle.gs_records.specs.Records.{is_kept, Record, kept, record_at, has_at, is_current, Turns}
 use Rattle.gs_records.specs.Graphs.{graphs_at, current}
+use Rattle.gs_records.specs.Births.{births_of, with_birth}
 use Rattle.gs_records.specs.Kept.{AreSingle, IsDated, AreDated, HasNoCurrent}
 use Rattle.gs_records.proofs.Found.{same_kept}
 use Rattle.gs_records.proofs.Same.{graphs_with, version_found}
+use Rattle.gs_records.proofs.Births.{births_and, birth_found}
 use Rattle.gs_records.proofs.Lifetimes.{has_birth, has_lives, lives_past, once_at, once_current}
 use Rattle.gs_records.proofs.Turning.{none_bare, turned_agrees, graphs_turned}
 
@@ -52,4 +54,10 @@ module _ (old new : List Record) (n : ℕ) (e : Entry) (turn : Turns old new n (
   pub current-placed : current new ≡ with_version (current old) e.target e.version
   current-placed = graphs_with is_current is_current new old e.target e.version (once_current old single)
       (version_found is_current new e.target (once_current new single_placed) (record { number = n; entry = e; at = turn.changed; passes = ap is_none now; same = refl }))
+      (λ u ne. turned_agrees is_current old new n (kept e) u turn (none_bare is_current u (record_at old n) bare) (λ f is of has. ne (sym of ∙ sym (ap (λ (x : Entry). x.target) (same_kept e f is)))))
+
+  -- and its birth is its graph's
+  pub births-placed : births_of new ≡ with_birth (births_of old) e.target e.birth
+  births-placed = births_and new old e.target e.birth (once_current old single)
+      (birth_found new e.target (once_current new single_placed) (record { number = n; entry = e; at = turn.changed; passes = ap is_none now; same = refl }))
       (λ u ne. turned_agrees is_current old new n (kept e) u turn (none_bare is_current u (record_at old n) bare) (λ f is of has. ne (sym of ∙ sym (ap (λ (x : Entry). x.target) (same_kept e f is)))))

@@ -1,5 +1,5 @@
 -- A commit: the graph's current record ends, and an open one is that of the graph, or is given up.
-use Rattle.std.proofs.Common.{◌≡◌, ℕ, true, false, cond, List, [], ◌++◌, Option, Some, None, is_none, refl, sym, ap, subst, ◌∙◌, inl, inr, arith, true≢false}
+use Rattle.std.proofs.Common.{◌≡◌, ℕ, Bool, true, false, cond, List, [], ◌++◌, Option, Some, None, is_none, refl, sym, ap, subst, ◌∙◌, inl, inr, arith, true≢false}
 use Rattle.std.proofs.lemmas.List.Sums.{sum_by-append}
 use Rattle.std.proofs.lemmas.Map.Views.{exact_unsigned_eq}
 use Rattle.gs_term.specs.declared.names.Target.{Target}
@@ -9,9 +9,11 @@ use Rattle.gs_catalogue.specs.declared.versions.GraphVersion.{GraphVersion}
 use Rattle.gs_catalogue.specs.Catalogues.{GraphVersions, version_at, with_version}
 use Rattle.gs_records.specs.Records.{Record, opened, unused, Recorded, record_at, ended}
 use Rattle.gs_records.specs.Graphs.{current, without_version}
+use Rattle.gs_records.specs.Births.{Births, births_of, with_birth, without_birth}
 use Rattle.gs_records.specs.Waste.{lifetimes, waste_in}
-use Rattle.gs_records.specs.Calls.{Gains, endings, made_record, is_nothing, placed, KeepsCounts, UsesOne, GivesUp, RemovesVersion, Places, MakesCurrent}
+use Rattle.gs_records.specs.Calls.{Gains, endings, made_record, is_nothing, placed, births_with, KeepsCounts, UsesOne, GivesUp, RemovesVersion, Places, MakesCurrent}
 use Rattle.gs_records.proofs.Found.{same_versions, cases_target, version_at-with, version_at-with_other, version_at-without_other}
+use Rattle.gs_records.proofs.Births.{birth_with-without}
 use Rattle.gs_records.proofs.Lifetimes.{first_true, second_true}
 
 -- a version that is set does not depend on the one before it
@@ -33,6 +35,10 @@ with_nothing g Default v e =
     λ i. record { unnamed = record { root = sym root i; triples = sym none i }; named = g.named }
 with_nothing g (Named name) v e = absurd (true≢false (sym e))
 
+-- the births with a version that is nothing, or is something
+births_by : (b : Births) (t : Target) (v : GraphVersion) (commit : ℕ) (nothing : Bool) → is_nothing t v ≡ nothing → births_with b t v commit ≡ cond nothing (without_birth b t) (with_birth b t commit)
+births_by b t v commit nothing is = ap (λ x. cond x (without_birth b t) (with_birth b t commit)) is
+
 gains_both : (a b c : List Lifetime) (more last : List Lifetime) → Gains a b more → Gains b c last → Gains a c (more ++ last)
 gains_both a b c more last first second f = omega (arith, first f, second f, sum_by-append f more last)
 
@@ -51,6 +57,7 @@ puts_nothing a b c n t v commit nothing r g =
       others = λ m ne. g.turns.others m ne ∙ r.ends m;
       versions = λ w lt. g.graphs.versions w ∙ r.versions w lt;
       now = g.graphs.now ∙ r.now ∙ with_nothing (current a.records) t v nothing;
+      births = g.graphs.births ∙ r.births ∙ sym (births_by (births_of a.records) t v commit true nothing);
       waste = subst (λ x. Gains (waste_in a.records) (waste_in c.records) (endings t commit a.records ++ lifetimes x)) (sym is) (gains_both (waste_in a.records) (waste_in b.records) (waste_in c.records) (endings t commit a.records) (lifetimes unused) r.waste g.waste);
       last = r.last;
       counts = uses_after a.records b.records c.records r.counts g.counts;
@@ -66,6 +73,7 @@ puts_made a b c n t v commit something r p =
       others = λ m ne. p.turns.others m ne ∙ r.ends m;
       versions = λ w lt. p.versions w (omega (arith, lt, r.latest)) ∙ r.versions w lt;
       now = p.now ∙ ap (λ g. with_version g t v) r.now ∙ with-without (current a.records) t v;
+      births = p.births ∙ (λ i. with_birth (r.births i) t (r.latest i)) ∙ birth_with-without (births_of a.records) t commit ∙ sym (births_by (births_of a.records) t v commit false something);
       waste = subst (λ x. Gains (waste_in a.records) (waste_in c.records) (endings t commit a.records ++ lifetimes x)) (sym is) (gains_both (waste_in a.records) (waste_in b.records) (waste_in c.records) (endings t commit a.records) [] r.waste p.waste);
       last = r.last;
       counts = uses_after a.records b.records c.records r.counts p.counts;

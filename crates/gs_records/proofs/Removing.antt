@@ -13,7 +13,7 @@ use Rattle.gs_records.specs.Kept.{AreSingle, HasNoCurrent}
 use Rattle.gs_records.specs.Calls.{EndsCurrent, RemovesVersion}
 use Rattle.gs_records.specs.Stored.{records_by, HasNode, said_of, StandsForRecord, IsStored, ChangesOneNumber}
 use Rattle.gs_records.proofs.Lifetimes.{EndedCases, ends, stays, ended_cases, once_current}
-use Rattle.gs_records.proofs.Ending.{graphs_at-ended, current-ended_records, none_current, single_ended, dated_ended}
+use Rattle.gs_records.proofs.Ending.{graphs_at-ended, current-ended_records, births-ended, none_current, single_ended, dated_ended}
 use Rattle.gs_records.proofs.Sums.{gains_ended, counts_ended}
 use Rattle.gs_records.proofs.Storing.{turns_stored, all_stand}
 use Rattle.gs_records.proofs.Keeping.{stands_at, used_within}
@@ -58,6 +58,7 @@ removed a b t commit single last is listed latest limit = record {
   ends = is;
   versions = λ v lt. graphs_at-ended a.records b.records t commit is v single lt;
   now = current-ended_records a.records b.records t commit is single;
+  births = births-ended a.records b.records t commit is single;
   none = none_current a.records b.records t commit is;
   waste = gains_ended a.records b.records t commit is;
   last = last;

@@ -12,7 +12,7 @@ use Rattle.gs_records.proofs.Found.{Found, Looked, has, lacks, looked, same_kept
 abbrev pub AreOnce : (Entry → Bool) → List Record → Type 0
 AreOnce test rs = (t : Target) (f g : Found test rs t) → f.number ≡ g.number
 
-same_entry : (rs : List Record) (m n : ℕ) (e f : Entry) → record_at rs m ≡ kept e → record_at rs n ≡ kept f → m ≡ n → e ≡ f
+pub same_entry : (rs : List Record) (m n : ℕ) (e f : Entry) → record_at rs m ≡ kept e → record_at rs n ≡ kept f → m ≡ n → e ≡ f
 same_entry rs m n e f p q s = same_kept e f (sym p ∙ ap (record_at rs) s ∙ q)
 
 -- the target's version is that of the record that is found
@@ -31,9 +31,9 @@ version_lacking test rs t not = go (looked test rs t)
     go (has g e) = absurd (not g)
     go (lacks none e) = e
 
--- what is found in one list is found in the other, with the same version
+-- what is found in one list is found in the other, with the same version and the same birth
 pub record Agrees (p q : Entry → Bool) (rs ss : List Record) (t : Target) : Type 0 where
-  pub there : (f : Found p rs t) → (g : Found q ss t) × (g.entry.version ≡ f.entry.version)
+  pub there : (f : Found p rs t) → (g : Found q ss t) × (g.entry.version ≡ f.entry.version) × (g.entry.birth ≡ f.entry.birth)
   pub back : Found q ss t → Found p rs t
 
 pub version_agrees : (p q : Entry → Bool) (rs ss : List Record) (t : Target) → AreOnce q ss → Agrees p q rs ss t → version_at (graphs_where p rs) t ≡ version_at (graphs_where q ss) t

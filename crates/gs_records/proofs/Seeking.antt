@@ -15,11 +15,13 @@ use Rattle.gs_index.specs.Ages.{blank_entry, age_of, age_in, age_cmp, aged_numbe
 use Rattle.gs_index.specs.Indexes.{Indexed, entry_at, is_listed, is_made_by, youngest_by, IsIndexed}
 use Rattle.gs_records.specs.Records.{kept, record_at, is_current, outlives}
 use Rattle.gs_records.specs.Graphs.{current}
+use Rattle.gs_records.specs.Births.{birth_at, births_of}
 use Rattle.gs_records.specs.Kept.{DiedBy, HasNoCurrent}
 use Rattle.gs_records.specs.Calls.{FindsCurrent}
 use Rattle.gs_records.specs.Stored.{is_made, bare_of, records_by, StandsForRecord, IsStored}
 use Rattle.gs_records.proofs.Found.{Found, target_itself, target_same}
 use Rattle.gs_records.proofs.Same.{version_found, version_lacking}
+use Rattle.gs_records.proofs.Births.{birth_found}
 use Rattle.gs_records.proofs.Lifetimes.{both_true, first_true, has_from, lives_none, once_current}
 use Rattle.gs_records.proofs.Storing.{records_at}
 use Rattle.gs_records.proofs.Listing.{IsFirst, find_first, find_none}
@@ -127,3 +129,9 @@ module _ (x : Indexed) (p : Nodes) (opens latest : ℕ) (s : IsStored x p opens 
 
     pub version_none : HasNoCurrent (records_by x p) t → version_at (current (records_by x p)) t ≡ version_at no_versions t
     version_none none = version_lacking is_current (records_by x p) t (λ f. none f.number f.entry f.at f.same f.passes)
+
+    -- the commit that made it
+    pub birth_current : (n : ℕ) → FindsCurrent (records_by x p) t (Some n) → birth_at (births_of (records_by x p)) t ≡ Some (entry_at x.entries n).birth
+    birth_current n c =
+        birth_found (records_by x p) t (once_current (records_by x p) s.single) (record { number = n; entry = c.entry; at = c.at; passes = ap is_none c.lives; same = c.same })
+        ∙ ap (λ (e : Entry). Some e.birth) (sym (entry_is n c.entry c.at))

@@ -4,12 +4,13 @@ use Rattle.std.specs.List.{All, sum_by}
 use Rattle.gs_term.specs.declared.names.Target.{Target}
 use Rattle.gs_term.specs.declared.names.Target.TheVariants.{Default, Named}
 use Rattle.gs_event.specs.Waste.{Lifetime}
-use Rattle.gs_event.specs.Steps.{EndsAt}
+use Rattle.gs_event.specs.Wasting.{EndsAt}
 use Rattle.gs_catalogue.specs.declared.versions.GraphVersion.{GraphVersion}
 use Rattle.gs_catalogue.specs.Catalogues.{version_at, with_version}
 use Rattle.gs_index.specs.declared.entries.Entry.{Entry}
 use Rattle.gs_records.specs.Records.{Record, free, opened, unused, kept, Recorded, record_at, is_of, is_current, ended, Turns, Ends}
 use Rattle.gs_records.specs.Graphs.{graphs_at, current, without_version}
+use Rattle.gs_records.specs.Births.{Births, births_of, birth_at, with_birth, without_birth}
 use Rattle.gs_records.specs.Waste.{lifetimes, waste_in, open_count, used_count}
 use Rattle.gs_records.specs.Kept.{HasNoCurrent}
 
@@ -39,10 +40,11 @@ abbrev pub records_for : Target → Option GraphVersion → ℕ
 records_for t None = 0
 records_for t (Some v) = if is_nothing t v then 0 else 1
 
--- what ends at this commit is the current record of the graph, where there is one, which began before
+-- what ends at this commit is the current record of the graph, where there is one, which a commit before it made
 pub record EndsCurrent (rs : List Record) (t : Target) (commit : ℕ) : Type 0 where
   pub few : length (endings t commit rs) ≤ records_for t (version_at (current rs) t)
   pub ended : All (EndsAt commit) (endings t commit rs)
+  pub made : All (λ l. birth_at (births_of rs) t ≡ Some l.birth) (endings t commit rs)
 
 -- as many numbers are in use, and as many records are open
 pub record KeepsCounts (old new : List Record) : Type 0 where
@@ -54,10 +56,11 @@ pub record UsesOne (old new : List Record) : Type 0 where
   pub used : used_count new ≡ used_count old
   pub opens : open_count new + 1 ≡ open_count old
 
--- the versions that the dataset had, and has
+-- the versions that the dataset had, and has, and the births of the current ones
 pub record KeepsGraphs (old new : List Record) : Type 0 where
   pub versions : (v : ℕ) → graphs_at v new ≡ graphs_at v old
   pub now : current new ≡ current old
+  pub births : births_of new ≡ births_of old
 
 -- A number that was free, and is below the limit, is open; no version of the dataset is another.
 pub record Opens (old new : Recorded) (n : ℕ) : Type 0 where
@@ -87,6 +90,7 @@ pub record RemovesVersion (old new : Recorded) (t : Target) (commit : ℕ) : Typ
   pub ends : Ends old.records new.records t commit
   pub versions : (v : ℕ) → v < commit → graphs_at v new.records ≡ graphs_at v old.records
   pub now : current new.records ≡ without_version (current old.records) t
+  pub births : births_of new.records ≡ without_birth (births_of old.records) t
   pub none : HasNoCurrent new.records t
   pub waste : Gains (waste_in old.records) (waste_in new.records) (endings t commit old.records)
   pub last : EndsCurrent old.records t commit
@@ -108,10 +112,15 @@ pub record Places (old new : Recorded) (n : ℕ) (t : Target) (v : GraphVersion)
   pub turns : Turns old.records new.records n (made_record t v old.latest)
   pub versions : (w : ℕ) → w < old.latest → graphs_at w new.records ≡ graphs_at w old.records
   pub now : current new.records ≡ with_version (current old.records) t v
+  pub births : births_of new.records ≡ with_birth (births_of old.records) t old.latest
   pub waste : Gains (waste_in old.records) (waste_in new.records) []
   pub counts : UsesOne old.records new.records
   pub latest : new.latest ≡ old.latest
   pub limit : new.limit ≡ old.limit
+
+-- the births once the target's graph has this version, by this commit
+abbrev pub births_with : Births → Target → GraphVersion → ℕ → Births
+births_with b t v commit = if is_nothing t v then without_birth b t else with_birth b t commit
 
 -- An open record is that of a graph, whose version until now ended at this commit: earlier versions of the dataset are as before, and
 -- the graph has this version now, and no other graph changed.
@@ -120,6 +129,7 @@ pub record MakesCurrent (old new : Recorded) (n : ℕ) (t : Target) (v : GraphVe
   pub others : (m : ℕ) → m ≢ n → record_at new.records m ≡ ended t commit (record_at old.records m)
   pub versions : (w : ℕ) → w < commit → graphs_at w new.records ≡ graphs_at w old.records
   pub now : current new.records ≡ with_version (current old.records) t v
+  pub births : births_of new.records ≡ births_with (births_of old.records) t v commit
   pub waste : Gains (waste_in old.records) (waste_in new.records) (endings t commit old.records ++ lifetimes (placed t v commit))
   pub last : EndsCurrent old.records t commit
   pub counts : UsesOne old.records new.records

@@ -3,7 +3,7 @@ use Rattle.std.specs.Prelude.{◌≡◌, ℕ, ◌<◌, ◌≤◌, List, ◌++◌
 use Rattle.std.specs.List.{All, filter}
 use Rattle.gs_term.specs.declared.names.Target.{Target}
 use Rattle.gs_event.specs.Waste.{Lifetime}
-use Rattle.gs_event.specs.Steps.{EndsAt}
+use Rattle.gs_event.specs.Wasting.{EndsAt}
 use Rattle.gs_index.specs.Indexes.{numbers_after}
 use Rattle.gs_records.specs.Records.{Record}
 use Rattle.gs_records.specs.Graphs.{graphs_at, current}

@@ -1,6 +1,7 @@
--- Read in this order: what each number stands for; the graphs of a version; waste; what a call does to the records, and a reclaim; what is kept true.
+-- Read in this order: what each number stands for; the graphs of a version; which commits made the current records; waste; what a call does to the records, and a reclaim; what is kept true.
 pub mod Records
 pub mod Graphs
+pub mod Births
 pub mod Waste
 pub mod Kept
 pub mod Stored

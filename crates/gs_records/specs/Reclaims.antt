@@ -3,6 +3,7 @@ use Rattle.std.specs.Prelude.{◌≡◌, ◌⊎◌, ℕ, Bool, false, List, [], 
 use Rattle.gs_event.specs.Waste.{Lifetime, is_needed}
 use Rattle.gs_event.specs.Steps.{Frees}
 use Rattle.gs_records.specs.Records.{Record, free, Recorded, record_at}
+use Rattle.gs_records.specs.Births.{births_of}
 use Rattle.gs_records.specs.Graphs.{graphs_at, current}
 use Rattle.gs_records.specs.Waste.{lifetimes, waste_in, open_count}
 
@@ -23,6 +24,7 @@ pub record ReclaimsRecords (pins : List (Option ℕ)) (n freed : ℕ) (left : Bo
   pub each : (m : ℕ) → StaysOrGoes pins (record_at old.records m) (record_at new.records m)
   pub versions : (s v : ℕ) → slice_index_or pins s None ≡ Some v → graphs_at v new.records ≡ graphs_at v old.records
   pub now : current new.records ≡ current old.records
+  pub births : births_of new.records ≡ births_of old.records
   pub opens : open_count new.records ≡ open_count old.records
   pub latest : new.latest ≡ old.latest
   pub limit : new.limit ≡ old.limit

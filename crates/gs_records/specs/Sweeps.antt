@@ -11,6 +11,7 @@ use Rattle.gs_ledger.specs.Marks.{death_of}
 use Rattle.gs_index.specs.Indexes.{Indexed, entry_at}
 use Rattle.gs_records.specs.Records.{Record, record_at}
 use Rattle.gs_records.specs.Graphs.{graphs_at, current}
+use Rattle.gs_records.specs.Births.{births_of}
 use Rattle.gs_records.specs.Waste.{waste_in}
 use Rattle.gs_records.specs.Stored.{records_by, ListsMade, IsStored}
 use Rattle.gs_records.specs.Reclaims.{StaysOrGoes}
@@ -59,6 +60,7 @@ pub record Drops (pins : List (Option ℕ)) (freed : ℕ) (old new : List Record
   pub each : (m : ℕ) → StaysOrGoes pins (record_at old m) (record_at new m)
   pub versions : (s v : ℕ) → slice_index_or pins s None ≡ Some v → graphs_at v new ≡ graphs_at v old
   pub now : current new ≡ current old
+  pub births : births_of new ≡ births_of old
   pub gone : List Lifetime
   pub many : length gone ≡ freed
   pub same : (f : Lifetime → ℕ) → sum_by f (waste_in new) + sum_by f gone ≡ sum_by f (waste_in old)

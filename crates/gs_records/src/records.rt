@@ -5,6 +5,7 @@ ghost use Rattle.gs_catalogue.specs.Catalogues.{version_at};
 ghost use Rattle.gs_index.specs.Indexes.{is_listed, numbers_after};
 ghost use Rattle.gs_records.specs.Records.{opened, kept, Recorded, record_at};
 ghost use Rattle.gs_records.specs.Graphs.{current};
+ghost use Rattle.gs_records.specs.Births.{birth_at, births_of};
 ghost use Rattle.gs_records.specs.Kept.{HasNoCurrent};
 ghost use Rattle.gs_records.specs.Calls.{is_nothing, Opens, GivesUp, RemovesVersion, Places, MakesCurrent, FindsCurrent};
 ghost use Rattle.gs_records.specs.Reclaims.{ReclaimsRecords};
@@ -132,6 +133,14 @@ impl Records {
             Some(number) => Some(self.index.entry(number).version),
             None => missing_version(target),
         }
+    }
+
+    /// The number of the commit that made the current record of a target's graph, if it has one.
+    pub fn birth(&self, target: &Target) -> Option<u64>
+        ensures { result ≡ birth_at (births_of self.now.records) target.now }
+    {
+        let number = self.current(target)?;
+        Some(self.index.entry(number).birth)
     }
 
     /// Ends the current record of a graph at a commit, where there is one. Takes no memory.

@@ -9,22 +9,25 @@ use Rattle.gs_ledger.specs.Ledger.{IsLedger}
 use Rattle.gs_datasets.specs.Standing.{dataset_at, all_versions, graph_trees, IsVersion}
 use Rattle.gs_records.specs.Records.{Recorded}
 use Rattle.gs_records.specs.Graphs.{current}
+use Rattle.gs_records.specs.Births.{Births, births_of}
 use Rattle.gs_records.specs.Calls.{GivesUp}
 use Rattle.gs_tree_store.specs.declared.books.Books.{Books}
 use Rattle.gs_tree_store.specs.declared.books.Seat.{Seat}
 use Rattle.gs_tree_store.specs.declared.books.Seat.TheVariants.{Idle}
+use Rattle.gs_tree_store.specs.LastWrites.{last_writes_of}
 use Rattle.gs_tree_store.specs.Books.{books_setting, dataset_of, IsSound}
 use Rattle.gs_tree_store.specs.Actions.{Acts}
 
--- the graphs of now and the last commit are the same
+-- the graphs of now, the commits that made their records and the last commit are the same
 pub record SameNow (x y : Recorded) : Type 0 where
   pub graphs : current y.records ≡ current x.records
   pub latest : y.latest ≡ x.latest
   pub limit : y.limit ≡ x.limit
+  pub births : births_of y.records ≡ births_of x.records
 
 -- giving a record up leaves them
 pub gives_up_same : (x y : Recorded) (n : ℕ) → GivesUp x y n → SameNow x y
-gives_up_same x y n gives = record { graphs = gives.graphs.now; latest = gives.latest; limit = gives.limit }
+gives_up_same x y n gives = record { graphs = gives.graphs.now; latest = gives.latest; limit = gives.limit; births = gives.graphs.births }
 
 -- the books with other records
 abbrev pub with_records : Books → Recorded → Books
@@ -34,6 +37,9 @@ module _ (c : Books) (r : Recorded) (same : SameNow c.records r) where
   pub alike_dataset : dataset_of (with_records c r) ≡ dataset_of c
   alike_dataset = ap (dataset_at c.dict.terms c.pool) same.graphs
 
+  pub alike_writes : last_writes_of (with_records c r) ≡ last_writes_of c
+  alike_writes = λ i. record { unnamed = c.default_write; named = (same.births i).named; removed = c.last_delete }
+
   pub alike_sound : IsSound c → IsSound (with_records c r)
   alike_sound sound = record {
     versions = subst (λ g. All (IsVersion c.dict.terms c.pool) (all_versions g)) (sym same.graphs) sound.versions;
@@ -42,13 +48,14 @@ module _ (c : Books) (r : Recorded) (same : SameNow c.records r) where
     latest = same.latest ∙ sound.latest;
     numbers = same.limit ∙ sound.numbers;
     base = sound.base;
+    written = λ n e. sound.written n (ap (λ (h : Births). h.unnamed) (sym same.births) ∙ e);
   }
 
   -- an action after which its seat is idle makes such books of others where it makes these of them
   pub acts_alike : (b : Books) (s : ℕ) (was : Seat) (action : Action) (answer : Answer) → Acts b c s was Idle action answer → Acts b (with_records c r) s was Idle action answer
   acts_alike b s was action answer acts = record {
     fits = acts.fits;
-    totals = (λ i. record { setting = books_setting c; dataset = alike_dataset i; request = c.request; commit = c.versions.commit }) ∙ acts.totals;
+    totals = (λ i. record { setting = books_setting c; dataset = alike_dataset i; request = c.request; commit = c.versions.commit; last_writes = alike_writes i }) ∙ acts.totals;
     seat = acts.seat;
     pins = acts.pins;
     sound = alike_sound acts.sound;

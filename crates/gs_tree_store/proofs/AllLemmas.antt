@@ -7,7 +7,10 @@ use Rattle.gs_event.specs.declared.events.Action.TheVariants.{Pin, Piece as Piec
 use Rattle.gs_event.specs.declared.events.Scope.TheVariants.{All as Whole}
 use Rattle.gs_event.specs.declared.answers.Answer.TheVariants.{Pinned, Lines}
 use Rattle.gs_event.specs.Datasets.{quads_of}
+use Rattle.gs_event.specs.Conditions.{asked_since}
+use Rattle.gs_event.specs.Operations.{Reads}
 use Rattle.gs_event.specs.Phases as phase
+use Rattle.gs_event.specs.Views.{state_of}
 use Rattle.gs_tree.specs.Tree.{Tree, leaf, tree_at}
 use Rattle.gs_staging.proofs.KeyLemmas.{still_grows}
 use Rattle.gs_catalogue.specs.Catalogues.{version_at}
@@ -31,9 +34,11 @@ use Rattle.gs_quads.proofs.Whole.{all_quads}
 use Rattle.gs_tree_store.specs.declared.books.Books.{Books}
 use Rattle.gs_tree_store.specs.declared.books.Seat.{Seat}
 use Rattle.gs_tree_store.specs.declared.books.Seat.TheVariants.{Idle, ReadingAll}
-use Rattle.gs_tree_store.specs.Books.{graphs_of, dataset_of, version_trees, IsReady}
+use Rattle.gs_tree_store.specs.Books.{graphs_of, dataset_of, totals_of, version_trees, IsReady}
 use Rattle.gs_tree_store.specs.Actions.{Acts}
-use Rattle.gs_tree_store.proofs.SeatLemmas.{same_totals, still_sound, ledger_stays, read_ends}
+use Rattle.gs_tree_store.proofs.ConditionLemmas.{totals_so, reads_stay}
+use Rattle.gs_tree_store.proofs.UndoneLemmas.{read_over}
+use Rattle.gs_tree_store.proofs.SeatLemmas.{same_totals, still_sound, ledger_stays}
 use Rattle.gs_tree_store.proofs.ReadLemmas.{has_tree, version_read}
 
 -- The records' listed numbers are in order, each version has one record of a graph at most, and none is later than the last commit.
@@ -72,13 +77,13 @@ module _ (b : Books) (s : ℕ) (single : AreSingle b.records.records) (listed : 
   all_now = all_quads b.dict.terms b.pool b.versions.commit b.records single listed are_graphs ∙ ap (λ g. quads_of (dataset_at b.dict.terms b.pool g)) last_graphs
 
   -- a pin of all graphs
-  all_pinned : Acts b (record b { versions = with_pin b.versions s (Some b.versions.commit) }) s Idle (ReadingAll b.versions.commit None) (Pin Whole) (Pinned 200)
+  all_pinned : Acts b (record b { versions = with_pin b.versions s (Some b.versions.commit) }) s Idle (ReadingAll b.versions.commit None) (Pin Whole) (Pinned 200 b.versions.commit)
   all_pinned =
       let p = b.pool in
       let trees = version_trees p b.records b.versions.commit in
       record {
-        fits = refl;
-        totals = same_totals b (record b { versions = with_pin b.versions s (Some b.versions.commit) }) refl refl refl refl;
+        fits = (refl, refl);
+        totals = totals_so b (record b { versions = with_pin b.versions s (Some b.versions.commit) }) (asked_since None (Reads Whole)) (state_of (totals_of b)) (reads_stay (totals_of b) Whole) refl refl refl;
         seat = ap (λ x. phase.Reading x) all_now;
         pins = refl;
         sound = still_sound b s (Some b.versions.commit) ready.sound;
@@ -98,12 +103,12 @@ module _ (b : Books) (s : ℕ) (single : AreSingle b.records.records) (listed : 
 
 pub pin_all_found : (b : Books) (s : ℕ) (seat : Seat) (v : ℕ) (w : Pins) → seat ≡ Idle → v ≡ w.commit → w ≡ with_pin b.versions s (Some b.versions.commit)
     → AreSingle b.records.records → AreListed b.records.records b.records.listed → AreDated b.records.latest b.records.records
-    → IsReady b s seat → Acts b (record b { versions = w }) s seat (ReadingAll v None) (Pin Whole) (Pinned 200)
+    → IsReady b s seat → Acts b (record b { versions = w }) s seat (ReadingAll v None) (Pin Whole) (Pinned 200 b.versions.commit)
 pin_all_found b s seat v w idle last pin single listed dated =
-    subst (λ x. IsReady b s x → Acts b (record b { versions = w }) s x (ReadingAll v None) (Pin Whole) (Pinned 200)) (sym idle)
+    subst (λ x. IsReady b s x → Acts b (record b { versions = w }) s x (ReadingAll v None) (Pin Whole) (Pinned 200 b.versions.commit)) (sym idle)
     (λ ready.
-    subst (λ n. Acts b (record b { versions = w }) s Idle (ReadingAll n None) (Pin Whole) (Pinned 200)) (sym (last ∙ ap (λ (x : Pins). x.commit) pin))
-    (subst (λ y. Acts b (record b { versions = y }) s Idle (ReadingAll b.versions.commit None) (Pin Whole) (Pinned 200)) (sym pin) (all_pinned b s single listed dated ready)))
+    subst (λ n. Acts b (record b { versions = w }) s Idle (ReadingAll n None) (Pin Whole) (Pinned 200 b.versions.commit)) (sym (last ∙ ap (λ (x : Pins). x.commit) pin))
+    (subst (λ y. Acts b (record b { versions = y }) s Idle (ReadingAll b.versions.commit None) (Pin Whole) (Pinned 200 b.versions.commit)) (sym pin) (all_pinned b s single listed dated ready)))
 
 -- what the seat reads can be read, from where it stands
 pub all_graphs : (b : Books) (s : ℕ) (seat : Seat) (v : ℕ) (last : Option Place) → seat ≡ ReadingAll v last → IsReady b s seat → AreGraphs b.dict.terms b.pool v b.records.records
@@ -117,7 +122,7 @@ more_of_all : (b : Books) (s v : ℕ) (last : Option Place) (count : ℕ) (piece
     → Acts b b s (ReadingAll v last) (ReadingAll v piece.last) (PieceOf count) (Lines piece.bytes false)
 more_of_all b s v last count piece some more p ready = record {
   fits = (some, p.bytes, sym more ∙ p.end);
-  totals = same_totals b b refl refl refl refl;
+  totals = same_totals b b refl refl refl refl refl;
   seat = ap (λ x. phase.Reading x) (p.rest more);
   pins = sym (set-get_or b.versions.seats s None);
   sound = ready.sound;
@@ -136,18 +141,7 @@ all_more b s seat v last count piece reads some more p =
 -- the last piece
 none_of_all : (b : Books) (s v : ℕ) (last : Option Place) (count : ℕ) (piece : QuadPiece) → 0 < count → piece.is_end ≡ true → IsQuadPiece b.dict.terms b.pool v b.records last count piece → IsReady b s (ReadingAll v last)
     → Acts b (record b { versions = with_pin b.versions s None }) s (ReadingAll v last) Idle (PieceOf count) (Lines piece.bytes true)
-none_of_all b s v last count piece some ends p ready = record {
-  fits = (some, p.bytes, sym ends ∙ p.end);
-  totals = same_totals b (record b { versions = with_pin b.versions s None }) refl refl refl refl;
-  seat = refl;
-  pins = refl;
-  sound = still_sound b s None ready.sound;
-  known = tt;
-  version = tt;
-  grows = still_grows b.dict b.dict refl;
-  ledgers = λ us rs l. record { ledger = read_ends b s us rs ready.there l.there l.ledger; waste = refl };
-  takes = refl;
-}
+none_of_all b s v last count piece some ends p ready = read_over b s (ReadingAll v last) (PieceOf count) (Lines piece.bytes true) (some, p.bytes, sym ends ∙ p.end) refl refl refl refl refl refl ready
 
 pub all_last : (b : Books) (s : ℕ) (seat : Seat) (v : ℕ) (last : Option Place) (count : ℕ) (piece : QuadPiece) (w : Pins) → seat ≡ ReadingAll v last → 0 < count → piece.is_end ≡ true → IsQuadPiece b.dict.terms b.pool v b.records last count piece
     → w ≡ with_pin b.versions s None → IsReady b s seat → Acts b (record b { versions = w }) s seat Idle (PieceOf count) (Lines piece.bytes true)

@@ -9,7 +9,8 @@ use Rattle.gs_model.specs.Limits.{last_number, last_node}
 use Rattle.gs_term.specs.declared.names.Target.{Target}
 use Rattle.gs_term.specs.declared.names.Target.TheVariants.{Default, Named}
 use Rattle.gs_event.specs.Datasets.{with_graph, size_at}
-use Rattle.gs_event.specs.Steps.{Joins, EndsAt, DeleteRecords}
+use Rattle.gs_event.specs.Conditions.{with_write, with_delete}
+use Rattle.gs_event.specs.Wasting.{Joins, EndsAt, DeleteRecords}
 use Rattle.gs_pool.specs.Pool.{Nodes, aside_count}
 use Rattle.gs_tree.specs.Tree.{Tree, leaf, root_of, keys, tree_at}
 use Rattle.gs_keys.specs.Roots.{graph_of_root}
@@ -38,9 +39,11 @@ use Rattle.gs_commit.proofs.DeadLemmas.{tree_at_same}
 use Rattle.gs_commit.proofs.RootLemmas.{ledger_retirable}
 use Rattle.gs_commit.proofs.LawLemmas.{leaf_upload}
 use Rattle.gs_tree_store.specs.declared.books.Books.{Books}
+use Rattle.gs_tree_store.specs.LastWrites.{last_writes_of, WasWritten, by_target}
 use Rattle.gs_tree_store.specs.Books.{graphs_of, dataset_of, totals_of, IsFound, IsSound, HasLedger}
 use Rattle.gs_tree_store.specs.Opened.{IsOpened, SameOpened}
 use Rattle.gs_tree_store.specs.Writes.{KeepsBooks, EndsOneVersion, Puts, Removes}
+use Rattle.gs_tree_store.proofs.WrittenLemmas.{put_writes, put_written}
 use Rattle.gs_tree_store.proofs.RecordLemmas.{commit_wastes}
 use Rattle.gs_tree_store.proofs.OpenedLemmas.{AllSame, all_put, put_lets_go}
 
@@ -119,10 +122,10 @@ pub record EndsTree (old new : Books) (root : Option ℕ) : Type 0 where
   pub aside : aside_count new.pool ≡ aside_count old.pool
   pub ledgers : HandsOverAll old.versions new.versions old.pool new.pool root
 
--- it makes this of them, beside any records
-pub tree_ended : (b : Books) (t : Target) (old : GraphVersion) (q : Nodes) (w : Pins) (c : Recorded) → old ≡ version_or (graphs_of b) t → w ≡ at_commit b.versions (b.versions.commit + 1) → q.nodes ≡ b.pool.nodes → aside_count q ≡ aside_count b.pool
-    → HandsOverAll b.versions w b.pool q old.root → EndsTree b (record b { pool = q; versions = w; records = c }) (version_or (graphs_of b) t).root
-tree_ended b t old q w c is commit nodes aside ledgers = record {
+-- it makes this of them, beside any records and numbers of last writes
+pub tree_ended : (b : Books) (t : Target) (old : GraphVersion) (q : Nodes) (w : Pins) (c : Recorded) (write delete : ℕ) → old ≡ version_or (graphs_of b) t → w ≡ at_commit b.versions (b.versions.commit + 1) → q.nodes ≡ b.pool.nodes → aside_count q ≡ aside_count b.pool
+    → HandsOverAll b.versions w b.pool q old.root → EndsTree b (record b { pool = q; versions = w; records = c; default_write = write; last_delete = delete }) (version_or (graphs_of b) t).root
+tree_ended b t old q w c write delete is commit nodes aside ledgers = record {
   base = refl;
   limits = refl;
   request = refl;
@@ -145,10 +148,11 @@ kept_books old new root e = record {
   nodes = e.nodes;
 }
 
--- the records are as the last commit left them, and there may be as many as before
+-- the records are as the last commit left them, there may be as many as before, and that of the default graph is of the last write on it
 pub record IsLast (b : Books) : Type 0 where
   pub latest : b.records.latest ≡ b.versions.commit
   pub numbers : b.records.limit ≡ last_node + 1
+  pub written : WasWritten b.records b.default_write
 
 -- The books before a commit, and after it, where the graphs are g.
 module _ (old new : Books) (t : Target) (e : EndsTree old new (version_or (graphs_of old) t).root) (sound : IsSound old) (number : old.versions.commit < last_number) (g : GraphVersions) (written : graphs_of new ≡ g)
@@ -167,6 +171,7 @@ module _ (old new : Books) (t : Target) (e : EndsTree old new (version_or (graph
     latest = latest.latest;
     numbers = latest.numbers;
     base = subst (λ x. is_base x ≡ true) (sym e.base) sound.base;
+    written = latest.written;
   }
 
   -- the tree of the upload is that of a graph now
@@ -211,13 +216,14 @@ version_set old new t u e graphs latest sound is number =
     }
 
 -- the target has the upload's version, and the open record of number n is that of it
-pub put_made : (old new : Books) (n : ℕ) (t : Target) (u : GraphVersion) (commit : ℕ) → EndsTree old new (version_or (graphs_of old) t).root → MakesCurrent old.records new.records n t u commit → commit ≡ new.versions.commit → IsOpened old n
+pub put_made : (old new : Books) (n : ℕ) (t : Target) (u : GraphVersion) (commit : ℕ) → EndsTree old new (version_or (graphs_of old) t).root → MakesCurrent old.records new.records n t u commit → commit ≡ new.versions.commit → new.default_write ≡ by_target t commit old.default_write → new.last_delete ≡ old.last_delete → IsOpened old n
     → IsSound old → IsVersion old.dict.terms old.pool u → old.versions.commit < last_number → Puts old new n t u
-put_made old new n t u commit e puts last was sound is number =
-    let sets = version_set old new t u e puts.now (record { latest = puts.latest ∙ last; numbers = puts.limit ∙ sound.numbers }) sound is number in
+put_made old new n t u commit e puts last write delete was sound is number =
+    let sets = version_set old new t u e puts.now (record { latest = puts.latest ∙ last; numbers = puts.limit ∙ sound.numbers; written = put_written old new commit t u puts.births write sound.written }) sound is number in
     let next : commit ≡ old.versions.commit + 1 = last ∙ ap (λ (v : Pins). v.commit) e.commit in
     record {
       dataset = sets.dataset;
+      last_writes = put_writes old new commit t u puts.births write delete ∙ ap (λ k. with_write (last_writes_of old) k t) next;
       kept = sets.kept;
       sound = sets.sound;
       ledgers = sets.ledgers;
@@ -233,18 +239,23 @@ leaf_ends old new size ends us rs l = ends us rs ((leaf_upload old.pool old.vers
 
 -- The version of the target's graph ended.
 module _ (old new : Books) (latest : IsLast new) (same : SameOpened old new) (stays : AllSame old new) (counts : KeepsCounts old.records.records new.records.records) (sound : IsSound old) (number : old.versions.commit < last_number) where
-  -- what it makes of the waste of records
+  -- what it makes of the numbers of last writes
+  abbrev Writes : Target → Type 0
+  Writes t = last_writes_of new ≡ with_delete (last_writes_of old) (old.versions.commit + 1) t
+
+  -- and of the waste of records
   abbrev Wastes : Target → Type 0
   Wastes t = DeleteRecords (totals_of old) t true (waste_in old.records.records) (waste_in new.records.records)
 
   -- the default graph is empty
-  emptied : Wastes Default → EndsTree old new (version_or (graphs_of old) Default).root → graphs_of new ≡ with_version (graphs_of old) Default empty_version → Removes old new Default
-  emptied wastes e written =
+  emptied : Writes Default → Wastes Default → EndsTree old new (version_or (graphs_of old) Default).root → graphs_of new ≡ with_version (graphs_of old) Default empty_version → Removes old new Default
+  emptied writes wastes e written =
       let terms = old.dict.terms in
       let none : graph_of_root terms old.pool None ≡ empty_graph = refl in
       let sets = version_set old new Default empty_version e written latest sound (empty_is terms old.pool) number in
       record {
         dataset = sets.dataset ∙ ap (with_graph (dataset_of old) Default) none;
+        last_writes = writes;
         kept = sets.kept;
         sound = sets.sound;
         ledgers = leaf_ends old new (size_at (dataset_of old) Default) sets.ledgers;
@@ -255,8 +266,8 @@ module _ (old new : Books) (latest : IsLast new) (same : SameOpened old new) (st
       }
 
   -- a name is gone
-  taken_out : (n : List ℕ) → Wastes (Named n) → EndsTree old new (version_or (graphs_of old) (Named n)).root → graphs_of new ≡ without_name (graphs_of old) n → Removes old new (Named n)
-  taken_out n wastes e graphs =
+  taken_out : (n : List ℕ) → Writes (Named n) → Wastes (Named n) → EndsTree old new (version_or (graphs_of old) (Named n)).root → graphs_of new ≡ without_name (graphs_of old) n → Removes old new (Named n)
+  taken_out n writes wastes e graphs =
       let terms = old.dict.terms in
       let p = old.pool in
       let q = new.pool in
@@ -266,6 +277,7 @@ module _ (old new : Books) (latest : IsLast new) (same : SameOpened old new) (st
       let takes = name_is_taken terms p q g n sound.versions (others_same old new t e sound number h graphs latest) in
       record {
         dataset = dataset_now old new t e sound number h graphs latest ∙ takes.dataset;
+        last_writes = writes;
         kept = kept_books old new (version_or g t).root e;
         sound = sound_now old new t e sound number h graphs latest takes.versions;
         ledgers = leaf_ends old new (size_at (dataset_of old) t) (ends_now old new t e sound number h graphs latest leaf takes.trees);
@@ -275,6 +287,6 @@ module _ (old new : Books) (latest : IsLast new) (same : SameOpened old new) (st
         waste = wastes;
       }
 
-  pub removed : (t : Target) → Wastes t → EndsTree old new (version_or (graphs_of old) t).root → graphs_of new ≡ without_version (graphs_of old) t → Removes old new t
+  pub removed : (t : Target) → Writes t → Wastes t → EndsTree old new (version_or (graphs_of old) t).root → graphs_of new ≡ without_version (graphs_of old) t → Removes old new t
   removed Default = emptied
   removed (Named n) = taken_out n

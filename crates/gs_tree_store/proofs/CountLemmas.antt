@@ -67,10 +67,10 @@ module _ (terms : List Term) (p : Nodes) where
 
   seat_keys : (rs : Recorded) (s : Seat) → IsSeat terms p rs s → held_at (seat_shown terms p rs s) ≡ length (keys (upload_tree p s)) + own_count s
   seat_keys rs Idle is = refl
-  seat_keys rs (Writing k r v o) is =
+  seat_keys rs (Writing k r v o since) is =
       let ks = keys (tree_at p v.root) in
       ap (λ n. n + 1) (ap length (triples_of_keys terms ks is.keyed.rising is.keyed.given) ∙ length-map ks (triple_at terms))
-  seat_keys rs (Patching t r o) is = refl
+  seat_keys rs (Patching t r o since) is = refl
   seat_keys rs (Reading root last) is = refl
   seat_keys rs (ReadingAll v last) is = refl
 

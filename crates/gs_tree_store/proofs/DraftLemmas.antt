@@ -11,8 +11,9 @@ use Rattle.gs_event.specs.declared.updates.Op.{Op}
 use Rattle.gs_event.specs.Updates.{updated, inserted_by, removed_by}
 use Rattle.gs_event.specs.Datasets.{with_graph, graph_at as graph_of_target}
 use Rattle.gs_event.specs.Operations.{united}
+use Rattle.gs_event.specs.Conditions.{with_write}
 use Rattle.gs_event.specs.Waste.{Lifetime}
-use Rattle.gs_event.specs.Steps.{Joins, EndsAt}
+use Rattle.gs_event.specs.Wasting.{Joins, EndsAt}
 use Rattle.gs_dict.specs.Numbering.{Numbered, IsDistinct}
 use Rattle.gs_pool.specs.Pool.{Nodes, aside_count, IsParted}
 use Rattle.gs_pool.specs.declared.nodes.Key.{Key}
@@ -35,6 +36,7 @@ use Rattle.gs_patch.specs.Patches.{Patches}
 use Rattle.gs_catalogue.specs.declared.versions.GraphVersion.{GraphVersion}
 use Rattle.gs_catalogue.specs.Catalogues.{empty_version, version_at, with_version}
 use Rattle.gs_records.specs.Records.{Recorded}
+use Rattle.gs_records.specs.Calls.{MakesCurrent}
 use Rattle.gs_records.specs.Graphs.{current}
 use Rattle.gs_versions.specs.Pins.{Pins, at_commit}
 use Rattle.gs_ledger.specs.Marks.{dead_at, waste_at}
@@ -49,8 +51,10 @@ use Rattle.gs_datasets.proofs.Keeping.{others_stay_beside}
 use Rattle.gs_datasets.proofs.Sizes.{graph_at-is}
 use Rattle.gs_datasets.proofs.Writing.{one_is_set}
 use Rattle.gs_tree_store.specs.declared.books.Books.{Books}
+use Rattle.gs_tree_store.specs.LastWrites.{last_writes_of, WasWritten, by_target}
 use Rattle.gs_tree_store.specs.Books.{graphs_of, dataset_of, IsSound, HasLedger}
 use Rattle.gs_tree_store.specs.Drafts.{CanDraft, IsRun, Drafts}
+use Rattle.gs_tree_store.proofs.WrittenLemmas.{put_writes, put_written}
 use Rattle.gs_tree_store.proofs.CommitLemmas.{version_or, same_dead, apart_ledger, roots_same, still_version}
 
 -- a change of the tree of a version that can have a draft is one
@@ -89,22 +93,35 @@ pub record KeptEnds (old new : Books) (most : ℕ) (us : List Tree) (rs : List (
   pub waste : Joins (EndsAt (old.versions.commit + 1)) most (waste_at old.pool) (waste_at new.pool)
 
 -- the books once a draft is kept
-abbrev pub with_draft : Books → Numbered → Nodes → Pins → Recorded → Books
-with_draft b d r w c = record b { dict = d; pool = r; versions = w; records = c }
+abbrev pub with_draft : Books → Numbered → Nodes → Pins → Recorded → ℕ → Books
+with_draft b d r w c write = record b { dict = d; pool = r; versions = w; records = c; default_write = write }
 
 fewer : (commit n most : ℕ) (old new : List Lifetime) → n ≤ most → Joins (EndsAt commit) n old new → Joins (EndsAt commit) most old new
 fewer commit n most old new few j = record { more = j.more; few = omega (arith, few, j.few); same = j.same; ended = j.ended }
 
--- the last commit of the records has this number, and there may be as many as before
-pub record IsNext (x c : Recorded) (birth : ℕ) : Type 0 where
+-- The last commit of the records has this number, and there may be as many as before. The commit of the default graph's record is the last
+-- write on it.
+pub record IsNext (x c : Recorded) (write birth : ℕ) : Type 0 where
   pub latest : c.latest ≡ birth
   pub limit : c.limit ≡ x.limit
+  pub written : WasWritten c write
+
+-- The records have the draft v as the version of the target's graph, whose record had number o.
+module _ (b : Books) (d : Numbered) (r : Nodes) (w : Pins) (c : Recorded) (o : ℕ) (t : Target) (v : GraphVersion) (birth : ℕ) (puts : MakesCurrent b.records c o t v birth) where
+  abbrev kept_books : Books
+  kept_books = with_draft b d r w c (by_target t birth b.default_write)
+
+  pub put_next : WasWritten b.records b.default_write → IsNext b.records c (by_target t birth b.default_write) birth
+  put_next was = record { latest = puts.latest; limit = puts.limit; written = put_written b kept_books birth t v puts.births refl was }
+
+  pub put_last : last_writes_of kept_books ≡ with_write (last_writes_of b) birth t
+  put_last = put_writes b kept_books birth t v puts.births refl refl
 
 -- The draft v of the target's graph is kept.
-module _ (b : Books) (d : Numbered) (q r : Nodes) (w : Pins) (c : Recorded) (t : Target) (v : GraphVersion) (g : Graph) (birth most : ℕ)
+module _ (b : Books) (d : Numbered) (q r : Nodes) (w : Pins) (c : Recorded) (write : ℕ) (t : Target) (v : GraphVersion) (g : Graph) (birth most : ℕ)
     (born : birth ≡ b.versions.commit + 1) (grows : Grows b.dict d) (made : Drafts birth d.terms b.pool q (version_or (graphs_of b) t) v g most)
     (keeps : KeepsDraftAll b.versions w q r) (commit : w ≡ at_commit b.versions (b.versions.commit + 1)) (nodes : r.nodes ≡ q.nodes) (none : aside_count r ≡ 0)
-    (written : current c.records ≡ with_version (graphs_of b) t v) (latest : IsNext b.records c birth) (number : b.versions.commit < last_number) (sound : IsSound b) where
+    (written : current c.records ≡ with_version (graphs_of b) t v) (latest : IsNext b.records c write birth) (number : b.versions.commit < last_number) (sound : IsSound b) where
   ends : (us : List Tree) (rs : List (List Tree)) → HasLedger b us rs → KeepsDraft b.versions w b.pool q r (tree_at q v.root) (other_trees b.pool (graphs_of b) t) us rs
   ends us rs l =
       let old = tree_at b.pool (version_or (graphs_of b) t).root in
@@ -123,7 +140,7 @@ module _ (b : Books) (d : Numbered) (q r : Nodes) (w : Pins) (c : Recorded) (t :
     sets : SetsOne b.dict.terms grows.more b.pool r (graphs_of b) t v
     sets = one_is_set b.dict.terms grows.more b.pool r (graphs_of b) t v sound.versions same_others (subst (λ ts. IsVersion ts r v) grows.terms (still_version d.terms q r v same_draft made.version))
 
-    pub kept_dataset : dataset_of (with_draft b d r w c) ≡ with_graph (dataset_of b) t g
+    pub kept_dataset : dataset_of (with_draft b d r w c write) ≡ with_graph (dataset_of b) t g
     kept_dataset =
         ap (dataset_at d.terms r) written
         ∙ ap (λ ts. dataset_at ts r (with_version (graphs_of b) t v)) grows.terms
@@ -132,7 +149,7 @@ module _ (b : Books) (d : Numbered) (q r : Nodes) (w : Pins) (c : Recorded) (t :
         ∙ ap (λ u. with_graph (dataset_of b) t (tree_graph d.terms u)) same_draft
         ∙ ap (with_graph (dataset_of b) t) made.graph
 
-    pub kept_sound : IsSound (with_draft b d r w c)
+    pub kept_sound : IsSound (with_draft b d r w c write)
     kept_sound = record {
       versions = subst (λ ts. All (IsVersion ts r) (all_versions (current c.records))) (sym grows.terms) (subst (λ g. All (IsVersion (b.dict.terms ++ grows.more) r) (all_versions g)) (sym written) sets.versions);
       none_aside = none;
@@ -140,9 +157,10 @@ module _ (b : Books) (d : Numbered) (q r : Nodes) (w : Pins) (c : Recorded) (t :
       latest = latest.latest ∙ born ∙ sym (ap (λ (x : Pins). x.commit) commit);
       numbers = latest.limit ∙ sound.numbers;
       base = sound.base;
+      written = latest.written;
     }
 
-    pub kept_ends : (us : List Tree) (rs : List (List Tree)) → HasLedger b us rs → KeptEnds b (with_draft b d r w c) most us rs
+    pub kept_ends : (us : List Tree) (rs : List (List Tree)) → HasLedger b us rs → KeptEnds b (with_draft b d r w c write) most us rs
     kept_ends us rs l =
         let h = ends us rs l in
         let trees : AreSameTrees (version_tree q v ∷ other_trees b.pool (graphs_of b) t) (graph_trees r (with_version (graphs_of b) t v)) = subst (λ u. AreSameTrees (u ∷ other_trees b.pool (graphs_of b) t) (graph_trees r (with_version (graphs_of b) t v))) same_draft sets.trees in

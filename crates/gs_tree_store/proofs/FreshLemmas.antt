@@ -19,6 +19,7 @@ use Rattle.gs_catalogue.specs.declared.versions.GraphVersion.{GraphVersion}
 use Rattle.gs_catalogue.specs.Catalogues.{GraphVersions, no_versions}
 use Rattle.gs_records.specs.Records.{record_at}
 use Rattle.gs_records.specs.Graphs.{current}
+use Rattle.gs_records.specs.Births.{births_of}
 use Rattle.gs_records.specs.Waste.{waste_in, is_opened, open_count}
 use Rattle.gs_versions.specs.Pins.{Pins, unpinned}
 use Rattle.gs_ledger.specs.Entries.{lives}
@@ -83,6 +84,8 @@ pub record IsFresh (a : Inside) (seats commit : ℕ) : Type 0 where
   pub marks : a.books.pool.marks ≡ []
   pub records : a.books.records.records ≡ []
   pub latest : a.books.records.latest ≡ commit
+  pub write : a.books.default_write ≡ commit
+  pub delete : a.books.last_delete ≡ commit
   pub limit : a.books.records.limit ≡ last_node + 1
   pub versions : a.books.versions ≡ unpinned commit seats
   pub idle : a.seats.items ≡ replicate seats Idle
@@ -114,6 +117,7 @@ module _ (a : Inside) (seats commit : ℕ) (fresh : IsFresh a seats commit) wher
           latest = fresh.latest ∙ sym (ap (λ (v : Pins). v.commit) fresh.versions);
           numbers = fresh.limit;
           base = base;
+          written = λ n e. absurd (none-some n (sym (ap (λ rs. (births_of rs).unnamed) fresh.records) ∙ e));
         };
         known = subst (All (IsSeat terms p a.books.records)) (sym fresh.idle) (All-replicate (IsSeat terms p a.books.records) seats Idle tt);
         pinned = ap (λ (v : Pins). map is_some v.seats) fresh.versions ∙ no_flags seats ∙ sym (ap (map is_reading) fresh.idle);
@@ -130,9 +134,9 @@ module _ (a : Inside) (seats commit : ℕ) (fresh : IsFresh a seats commit) wher
   pub fresh_view : (shown_of a).view ≡ view_of (record { seats = seats; setting = record { base = string_bytes a.books.base; limits = a.books.limits }; request = a.books.request; commit = commit }) []
   fresh_view =
       let dataset : dataset_of a.books ≡ empty_dataset = ap (dataset_at a.books.dict.terms a.books.pool) no_graphs ∙ (none_at_all a.books.dict.terms a.books.pool).dataset in
-      let last : a.books.versions.commit ≡ commit + 0 = ap (λ (v : Pins). v.commit) fresh.versions ∙ sym (add-zero commit) in
+      let last : a.books.versions.commit ≡ commit = ap (λ (v : Pins). v.commit) fresh.versions in
       let shown : map (seat_view_by a.books) a.seats.items ≡ map idle_view (range_with_len 0 seats) = ap (map (seat_view_by a.books)) fresh.idle ∙ idle_shown a.books 0 seats in
-      λ i. record { totals = record { setting = record { base = string_bytes a.books.base; limits = a.books.limits }; dataset = dataset i; request = sym (add-zero a.books.request) i; commit = last i }; seats = shown i }
+      λ i. record { totals = record { setting = record { base = string_bytes a.books.base; limits = a.books.limits }; dataset = dataset i; request = sym (add-zero a.books.request) i; commit = last i; last_writes = record { unnamed = fresh.write i; named = (births_of (fresh.records i)).named; removed = fresh.delete i } }; seats = shown i }
 
   -- and has no pins
   pub fresh_pins : (start : Start) → start.seats ≡ seats → a.books.versions.seats ≡ pinned_of start []

@@ -1,5 +1,5 @@
 -- Two wastes side by side: what joins them, what an action makes of both and of the numbers in use, and what a Reclaim frees of them.
-use Rattle.std.proofs.Common.{◌≡◌, ◌≢◌, ◌⊎◌, ℕ, ◌+◌, ◌-◌, ◌*◌, min, Bool, true, false, ◌||◌, IsTrue, List, [], ◌∷◌, ◌++◌, length, length-append, Option, cond, refl, sym, ap, arith, true≢false}
+use Rattle.std.proofs.Common.{◌≡◌, ◌≢◌, ◌⊎◌, ℕ, ◌+◌, ◌-◌, ◌*◌, min, Bool, true, false, not, nat_eq, ◌||◌, IsTrue, List, [], ◌∷◌, ◌++◌, length, length-append, Option, cond, refl, sym, ap, arith, true≢false}
 use Rattle.std.specs.List.{sum_by}
 use Rattle.std.proofs.lemmas.List.Elements.{All-append}
 use Rattle.std.proofs.lemmas.List.Sums.{sum_by-append}
@@ -18,26 +18,28 @@ use Rattle.gs_event.specs.Operations.{is_success, united}
 use Rattle.gs_event.specs.Phases.{Writing, Patching}
 use Rattle.gs_event.specs.Views.{Totals, SeatView}
 use Rattle.gs_event.specs.Waste.{Lifetime, is_needed, unneeded}
-use Rattle.gs_event.specs.Steps.{Joins, JoinsBoth, IsUnreached, EndsAt, most_for_new, most_patched, UploadNodes, UpdateNodes, DeleteNodes, WastesNodes, UploadRecords, UpdateRecords, DeleteRecords, WastesRecords, WastesBoth, Frees}
+use Rattle.gs_event.specs.Wasting.{Joins, JoinsBoth, IsUnreached, EndsAt, EndsRecord, most_for_new, most_patched, UploadNodes, UpdateNodes, DeleteNodes, WastesNodes, UploadRecords, UpdateRecords, DeleteRecords, WastesRecords, WastesBoth}
+use Rattle.gs_event.specs.Steps.{Frees}
 use Rattle.gs_tree_store.specs.Opened.{TakesRecords}
-use Rattle.gs_tree_store.specs.Actions.{SameUnless, SeatUses, TakesNodes}
+use Rattle.gs_tree_store.specs.Uses.{SameUnless, SeatUses}
+use Rattle.gs_tree_store.specs.Actions.{TakesNodes}
 
 -- What joins a list joins it where it stands in a larger one: f puts a list into one that has more, and count says how much more.
 module _ (f : List Lifetime → List Lifetime) (count : (Lifetime → ℕ) → ℕ) (is : (h : Lifetime → ℕ) (x : List Lifetime) → sum_by h (f x) ≡ sum_by h x + count h) where
   joins_in : (P : Lifetime → Type 0) (most : ℕ) (a b : List Lifetime) → Joins P most a b → Joins P most (f a) (f b)
   joins_in P most a b j = record { more = j.more; few = j.few; same = λ h. omega (arith, is h a, is h b, j.same h); ended = j.ended }
 
-  both_in : (last m n : ℕ) (a b : List Lifetime) → JoinsBoth last m n a b → JoinsBoth last m n (f a) (f b)
-  both_in last m n a b j = record {
+  both_in : (P : Lifetime → Type 0) (m n : ℕ) (a b : List Lifetime) → JoinsBoth P m n a b → JoinsBoth P m n (f a) (f b)
+  both_in P m n a b j = record {
     between = f j.between;
     unused = joins_in IsUnreached m a j.between j.unused;
-    replaced = joins_in (EndsAt (last + 1)) n j.between b j.replaced;
+    replaced = joins_in P n j.between b j.replaced;
   }
 
   upload_nodes_in : (v : Totals) (k : UploadKind) (g : Graph) (done : Bool) (a b : List Lifetime) → UploadNodes v k g done a b → UploadNodes v k g done (f a) (f b)
   upload_nodes_in v (Put t) g true a b j = joins_in (EndsAt (v.commit + 1)) (size_at v.dataset t) a b j
-  upload_nodes_in v (Post t) g true a b j = both_in v.commit (size_of g) (most_for_new * size_of g) a b j
-  upload_nodes_in v New g true a b j = both_in v.commit (size_of g) (most_for_new * size_of g) a b j
+  upload_nodes_in v (Post t) g true a b j = both_in (EndsAt (v.commit + 1)) (size_of g) (most_for_new * size_of g) a b j
+  upload_nodes_in v New g true a b j = both_in (EndsAt (v.commit + 1)) (size_of g) (most_for_new * size_of g) a b j
   upload_nodes_in v (Put t) g false a b j = joins_in IsUnreached (size_of g) a b j
   upload_nodes_in v (Post t) g false a b j = joins_in IsUnreached (size_of g) a b j
   upload_nodes_in v New g false a b j = joins_in IsUnreached (size_of g) a b j
@@ -51,34 +53,34 @@ module _ (f : List Lifetime → List Lifetime) (count : (Lifetime → ℕ) → �
   delete_nodes_in v t false a b same = ap f same
 
   nodes_in : (v : Totals) (p : SeatView) (action : Action) (answer : Answer) (a b : List Lifetime) → WastesNodes v p action answer a b → WastesNodes v p action answer (f a) (f b)
-  nodes_in v (Writing k r g) Commit (Status status name) a b x = upload_nodes_in v k g (is_success status) a b x
-  nodes_in v (Patching t r) (CommitPatch ops) (Status status name) a b x = update_nodes_in v t ops.items (is_success status) a b x
-  nodes_in v p (Delete t) (Status status name) a b x = delete_nodes_in v t (is_success status) a b x
-  nodes_in v (Writing k r g) Cancel Cancelled a b x = joins_in IsUnreached (size_of g) a b x
+  nodes_in v (Writing k r g since) Commit (Status status name number) a b x = upload_nodes_in v k g (is_success status) a b x
+  nodes_in v (Patching t r since) (CommitPatch ops) (Status status name number) a b x = update_nodes_in v t ops.items (is_success status) a b x
+  nodes_in v p (Delete t since) (Status status name number) a b x = delete_nodes_in v t (is_success status) a b x
+  nodes_in v (Writing k r g since) Cancel Cancelled a b x = joins_in IsUnreached (size_of g) a b x
   nodes_in v p action answer a b x = ap f x
 
   upload_records_in : (v : Totals) (k : UploadKind) (g : Graph) (done : Bool) (a b : List Lifetime) → UploadRecords v k g done a b → UploadRecords v k g done (f a) (f b)
-  upload_records_in v (Put t) g true a b j = both_in v.commit (unused_for t g) (records_at v.dataset t) a b j
-  upload_records_in v (Post t) g true a b j = both_in v.commit (unused_for t (united (graph_at v.dataset t) g)) (records_at v.dataset t) a b j
-  upload_records_in v New g true a b j = both_in v.commit 0 0 a b j
+  upload_records_in v (Put t) g true a b j = both_in (EndsRecord v t) (unused_for t g) (records_at v.dataset t) a b j
+  upload_records_in v (Post t) g true a b j = both_in (EndsRecord v t) (unused_for t (united (graph_at v.dataset t) g)) (records_at v.dataset t) a b j
+  upload_records_in v New g true a b j = joins_in IsUnreached 0 a b j
   upload_records_in v (Put t) g false a b j = joins_in IsUnreached 1 a b j
   upload_records_in v (Post t) g false a b j = joins_in IsUnreached 1 a b j
   upload_records_in v New g false a b j = joins_in IsUnreached 1 a b j
 
   update_records_in : (v : Totals) (t : Target) (ops : List Op) (done : Bool) (a b : List Lifetime) → UpdateRecords v t ops done a b → UpdateRecords v t ops done (f a) (f b)
-  update_records_in v t ops true a b j = both_in v.commit (unused_for t (patched (graph_at v.dataset t) ops)) (records_at v.dataset t) a b j
+  update_records_in v t ops true a b j = both_in (EndsRecord v t) (unused_for t (patched (graph_at v.dataset t) ops)) (records_at v.dataset t) a b j
   update_records_in v t ops false a b j = joins_in IsUnreached 1 a b j
 
   delete_records_in : (v : Totals) (t : Target) (done : Bool) (a b : List Lifetime) → DeleteRecords v t done a b → DeleteRecords v t done (f a) (f b)
-  delete_records_in v t true a b j = joins_in (EndsAt (v.commit + 1)) (records_at v.dataset t) a b j
+  delete_records_in v t true a b j = joins_in (EndsRecord v t) (records_at v.dataset t) a b j
   delete_records_in v t false a b same = ap f same
 
   records_in : (v : Totals) (p : SeatView) (action : Action) (answer : Answer) (a b : List Lifetime) → WastesRecords v p action answer a b → WastesRecords v p action answer (f a) (f b)
-  records_in v (Writing k r g) Commit (Status status name) a b x = upload_records_in v k g (is_success status) a b x
-  records_in v (Patching t r) (CommitPatch ops) (Status status name) a b x = update_records_in v t ops.items (is_success status) a b x
-  records_in v p (Delete t) (Status status name) a b x = delete_records_in v t (is_success status) a b x
-  records_in v (Writing k r g) Cancel Cancelled a b x = joins_in IsUnreached 1 a b x
-  records_in v (Patching t r) Cancel Cancelled a b x = joins_in IsUnreached 1 a b x
+  records_in v (Writing k r g since) Commit (Status status name number) a b x = upload_records_in v k g (is_success status) a b x
+  records_in v (Patching t r since) (CommitPatch ops) (Status status name number) a b x = update_records_in v t ops.items (is_success status) a b x
+  records_in v p (Delete t since) (Status status name number) a b x = delete_records_in v t (is_success status) a b x
+  records_in v (Writing k r g since) Cancel Cancelled a b x = joins_in IsUnreached 1 a b x
+  records_in v (Patching t r since) Cancel Cancelled a b x = joins_in IsUnreached 1 a b x
   records_in v p action answer a b x = ap f x
 
 -- what an action makes of both wastes: of the nodes first, beside the records that were, and then of these, beside the new nodes
@@ -104,11 +106,11 @@ as_many_unless false a b c d x y = as_many a b c d x y
 
 -- and of the numbers in use
 pub both_take : (p : SeatView) (action : Action) (answer : Answer) (a b c d : ℕ) → TakesNodes p action answer a b → TakesRecords action answer c d → SeatUses p action answer (a + c) (b + d)
-both_take (Writing k r g) (Stage ts) Staged a b c d x y = grown_by a b c d (size_of g) _ x y
-both_take (Writing (Post t) r g) Commit (Status status name) a b c d x y = tt
-both_take p (CommitPatch ops) (Status status name) a b c d x y = as_many_unless (is_success status) a b c d x y
-both_take p (Open k) (Opened r) a b c d x y = one_more a b c d x y
-both_take p (OpenPatch t) (Opened r) a b c d x y = one_more a b c d x y
+both_take (Writing k r g since) (Stage ts) Staged a b c d x y = grown_by a b c d (size_of g) _ x y
+both_take (Writing (Post t) r g since) Commit (Status status name number) a b c d x y = as_many_unless (not (nat_eq status 412)) a b c d x y
+both_take p (CommitPatch ops) (Status status name number) a b c d x y = as_many_unless (is_success status) a b c d x y
+both_take p (Open k since) (Opened r) a b c d x y = one_more a b c d x y
+both_take p (OpenPatch t since) (Opened r) a b c d x y = one_more a b c d x y
 both_take p action answer a b c d x y = as_many a b c d x y
 
 least_both : (n f g u w all : ℕ) → f ≡ min n u → g ≡ min (n - f) w → all ≡ u + w → f + g ≡ min n all

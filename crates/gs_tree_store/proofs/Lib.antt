@@ -1,6 +1,9 @@
 pub mod VerdictLemmas
 pub mod CommitLemmas
 pub mod WriteLemmas
+pub mod DeleteLemmas
+pub mod WrittenLemmas
+pub mod ConditionLemmas
 pub mod RecordLemmas
 pub mod OpenedLemmas
 pub mod AlikeLemmas

@@ -9,7 +9,7 @@ use Rattle.gs_term.specs.declared.names.Target.{Target}
 use Rattle.gs_event.specs.declared.events.Action.{Action}
 use Rattle.gs_event.specs.declared.answers.Answer.{Answer}
 use Rattle.gs_event.specs.declared.answers.Answer.TheVariants.{Refused}
-use Rattle.gs_event.specs.Steps.{Joins, IsUnreached, WastesRecords}
+use Rattle.gs_event.specs.Wasting.{Joins, IsUnreached, WastesRecords}
 use Rattle.gs_catalogue.specs.declared.versions.GraphVersion.{GraphVersion}
 use Rattle.gs_records.specs.Records.{Record, free, opened, unused, kept, Recorded, record_at, ended, Turns, Ends}
 use Rattle.gs_records.specs.Calls.{KeepsCounts, UsesOne, is_nothing, made_record, placed, Opens, GivesUp, RemovesVersion, MakesCurrent}
@@ -55,8 +55,8 @@ all_removed b c t commit later gone v le = (calls_keep v).removes b.records c.re
 -- a seat has one record open where it has a record
 counted : (s : Seat) → own_count s ≡ cond {A = ℕ} (is_some (own_record s)) 1 0
 counted Idle = refl
-counted (Writing k r v n) = refl
-counted (Patching t r n) = refl
+counted (Writing k r v n since) = refl
+counted (Patching t r n since) = refl
 counted (Reading root last) = refl
 counted (ReadingAll v last) = refl
 

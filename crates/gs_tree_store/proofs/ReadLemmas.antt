@@ -12,7 +12,9 @@ use Rattle.gs_event.specs.declared.answers.Answer.TheVariants.{Pinned, Lines, Re
 use Rattle.gs_event.specs.Datasets.{is_there, lines_at, lines_if}
 use Rattle.gs_event.specs.Phases as phase
 use Rattle.gs_event.specs.Phases.{allows}
-use Rattle.gs_event.specs.Views.{SeatView}
+use Rattle.gs_event.specs.Conditions.{asked_since}
+use Rattle.gs_event.specs.Operations.{Reads}
+use Rattle.gs_event.specs.Views.{SeatView, state_of}
 use Rattle.gs_pool.specs.declared.nodes.Key.{Key}
 use Rattle.gs_pool.specs.Pool.{Nodes}
 use Rattle.gs_tree.specs.Tree.{Tree, leaf, root_of, tree_at}
@@ -39,11 +41,12 @@ use Rattle.gs_quads.specs.Places.{Place}
 use Rattle.gs_tree_store.specs.declared.books.Books.{Books}
 use Rattle.gs_tree_store.specs.declared.books.Seat.{Seat}
 use Rattle.gs_tree_store.specs.declared.books.Seat.TheVariants.{Idle, Writing, Patching, Reading, ReadingAll}
-use Rattle.gs_tree_store.specs.Books.{graphs_of, dataset_of, seat_view_by, upload_tree, IsReady}
+use Rattle.gs_tree_store.specs.Books.{graphs_of, dataset_of, totals_of, seat_view_by, upload_tree, IsReady}
 use Rattle.gs_tree_store.specs.Actions.{Acts}
 use Rattle.gs_tree_store.proofs.PlaceLemmas.{some_of}
-use Rattle.gs_tree_store.proofs.UndoneLemmas.{nothing_done}
-use Rattle.gs_tree_store.proofs.SeatLemmas.{same_totals, still_sound, ledger_stays, read_ends}
+use Rattle.gs_tree_store.proofs.ConditionLemmas.{totals_so, reads_stay}
+use Rattle.gs_tree_store.proofs.UndoneLemmas.{nothing_done, read_over}
+use Rattle.gs_tree_store.proofs.SeatLemmas.{same_totals, still_sound, ledger_stays}
 
 -- the tree of a target's version is among those of the ledger
 pub has_tree : (p : Nodes) (g : GraphVersions) (t : Target) (v : GraphVersion) → version_at g t ≡ Some v → Contains (graph_trees p g) (tree_at p v.root)
@@ -84,12 +87,12 @@ pub read_graph : (b : Books) (s : ℕ) (seat : Seat) (root : Option ℕ) (last :
 read_graph b s seat root last reads = subst (λ x. IsReady b s x → IsGraphAt b.dict.terms b.pool root) (sym reads) (read_at b s root last)
 
 -- a pin of a missing graph
-missing : (b : Books) (s : ℕ) (t : Target) → version_at (graphs_of b) t ≡ None → IsReady b s Idle → Acts b b s Idle Idle (Pin (One t)) (Pinned 404)
+missing : (b : Books) (s : ℕ) (t : Target) → version_at (graphs_of b) t ≡ None → IsReady b s Idle → Acts b b s Idle Idle (Pin (One t)) (Pinned 404 b.versions.commit)
 missing b s t none ready =
     let not_there : is_there (dataset_of b) t ≡ false = is_there-is b.dict.terms b.pool (graphs_of b) t ∙ ap is_some none in
     record {
-      fits = sym (ap (λ x. cond x 200 404) not_there);
-      totals = same_totals b b refl refl refl refl;
+      fits = (sym (ap (λ x. cond x 200 404) not_there), refl);
+      totals = totals_so b b (asked_since None (Reads (One t))) (state_of (totals_of b)) (reads_stay (totals_of b) (One t)) refl refl refl;
       seat = refl;
       pins = sym (set-get_or b.versions.seats s None);
       sound = ready.sound;
@@ -100,12 +103,12 @@ missing b s t none ready =
       takes = refl;
     }
 
-pub pin_missing : (b : Books) (s : ℕ) (seat : Seat) (t : Target) → seat ≡ Idle → version_at (graphs_of b) t ≡ None → IsReady b s seat → Acts b b s seat seat (Pin (One t)) (Pinned 404)
-pin_missing b s seat t idle none = subst (λ x. IsReady b s x → Acts b b s x x (Pin (One t)) (Pinned 404)) (sym idle) (missing b s t none)
+pub pin_missing : (b : Books) (s : ℕ) (seat : Seat) (t : Target) → seat ≡ Idle → version_at (graphs_of b) t ≡ None → IsReady b s seat → Acts b b s seat seat (Pin (One t)) (Pinned 404 b.versions.commit)
+pin_missing b s seat t idle none = subst (λ x. IsReady b s x → Acts b b s x x (Pin (One t)) (Pinned 404 b.versions.commit)) (sym idle) (missing b s t none)
 
 -- a pin of a graph
 pinned : (b : Books) (s : ℕ) (t : Target) (v : GraphVersion) → version_at (graphs_of b) t ≡ Some v → IsReady b s Idle
-    → Acts b (record b { versions = with_pin b.versions s (Some b.versions.commit) }) s Idle (Reading v.root None) (Pin (One t)) (Pinned 200)
+    → Acts b (record b { versions = with_pin b.versions s (Some b.versions.commit) }) s Idle (Reading v.root None) (Pin (One t)) (Pinned 200 b.versions.commit)
 pinned b s t v is ready =
     let terms = b.dict.terms in
     let p = b.pool in
@@ -118,8 +121,8 @@ pinned b s t v is ready =
     let is_in : Tree → Type 0 = Contains (graph_trees p g) in
     let contained : All is_in one = All-cons is_in (tree_at p v.root) [] (has_tree p g t v is) (All-nil is_in) in
     record {
-      fits = sym (ap (λ x. cond x 200 404) there);
-      totals = same_totals b (record b { versions = with_pin b.versions s (Some b.versions.commit) }) refl refl refl refl;
+      fits = (sym (ap (λ x. cond x 200 404) there), refl);
+      totals = totals_so b (record b { versions = with_pin b.versions s (Some b.versions.commit) }) (asked_since None (Reads (One t))) (state_of (totals_of b)) (reads_stay (totals_of b) (One t)) refl refl refl;
       seat = ap (λ x. phase.Reading x) lines;
       pins = refl;
       sound = still_sound b s (Some b.versions.commit) ready.sound;
@@ -138,17 +141,17 @@ pinned b s t v is ready =
     }
 
 pub pin_found : (b : Books) (s : ℕ) (seat : Seat) (t : Target) (v : GraphVersion) (w : Pins) → seat ≡ Idle → version_at (graphs_of b) t ≡ Some v → w ≡ with_pin b.versions s (Some b.versions.commit) → IsReady b s seat
-    → Acts b (record b { versions = w }) s seat (Reading v.root None) (Pin (One t)) (Pinned 200)
+    → Acts b (record b { versions = w }) s seat (Reading v.root None) (Pin (One t)) (Pinned 200 b.versions.commit)
 pin_found b s seat t v w idle is pin =
-    subst (λ x. IsReady b s x → Acts b (record b { versions = w }) s x (Reading v.root None) (Pin (One t)) (Pinned 200)) (sym idle)
-    (λ ready. subst (λ y. Acts b (record b { versions = y }) s Idle (Reading v.root None) (Pin (One t)) (Pinned 200)) (sym pin) (pinned b s t v is ready))
+    subst (λ x. IsReady b s x → Acts b (record b { versions = w }) s x (Reading v.root None) (Pin (One t)) (Pinned 200 b.versions.commit)) (sym idle)
+    (λ ready. subst (λ y. Acts b (record b { versions = y }) s Idle (Reading v.root None) (Pin (One t)) (Pinned 200 b.versions.commit)) (sym pin) (pinned b s t v is ready))
 
 -- a piece after which lines are left
 more_left : (b : Books) (s : ℕ) (root : Option ℕ) (last : Option Key) (count : ℕ) (piece : Piece) → 0 < count → piece.is_end ≡ false → IsPiece b.dict.terms b.pool root last count piece → IsReady b s (Reading root last)
     → Acts b b s (Reading root last) (Reading root piece.last) (PieceOf count) (Lines piece.bytes false)
 more_left b s root last count piece some more p ready = record {
   fits = (some, p.bytes, sym more ∙ p.end);
-  totals = same_totals b b refl refl refl refl;
+  totals = same_totals b b refl refl refl refl refl;
   seat = ap (λ x. phase.Reading x) (p.rest more);
   pins = sym (set-get_or b.versions.seats s None);
   sound = ready.sound;
@@ -167,18 +170,7 @@ piece_more b s seat root last count piece reads some more p =
 -- the last piece
 none_left : (b : Books) (s : ℕ) (root : Option ℕ) (last : Option Key) (count : ℕ) (piece : Piece) → 0 < count → piece.is_end ≡ true → IsPiece b.dict.terms b.pool root last count piece → IsReady b s (Reading root last)
     → Acts b (record b { versions = with_pin b.versions s None }) s (Reading root last) Idle (PieceOf count) (Lines piece.bytes true)
-none_left b s root last count piece some ends p ready = record {
-  fits = (some, p.bytes, sym ends ∙ p.end);
-  totals = same_totals b (record b { versions = with_pin b.versions s None }) refl refl refl refl;
-  seat = refl;
-  pins = refl;
-  sound = still_sound b s None ready.sound;
-  known = tt;
-  version = tt;
-  grows = still_grows b.dict b.dict refl;
-  ledgers = λ us rs l. record { ledger = read_ends b s us rs ready.there l.there l.ledger; waste = refl };
-  takes = refl;
-}
+none_left b s root last count piece some ends p ready = read_over b s (Reading root last) (PieceOf count) (Lines piece.bytes true) (some, p.bytes, sym ends ∙ p.end) refl refl refl refl refl refl ready
 
 pub piece_last : (b : Books) (s : ℕ) (seat : Seat) (root : Option ℕ) (last : Option Key) (count : ℕ) (piece : Piece) (w : Pins) → seat ≡ Reading root last → 0 < count → piece.is_end ≡ true → IsPiece b.dict.terms b.pool root last count piece
     → w ≡ with_pin b.versions s None → IsReady b s seat → Acts b (record b { versions = w }) s seat Idle (PieceOf count) (Lines piece.bytes true)
@@ -189,23 +181,23 @@ piece_last b s seat root last count piece w reads some ends p pin =
 -- a piece of no line is not allowed
 none_allowed : (x : SeatView) (count : ℕ) → count ≡ 0 → allows x (PieceOf count) ≡ false
 none_allowed phase.Idle count none = refl
-none_allowed (phase.Writing k r g) count none = refl
-none_allowed (phase.Patching t r) count none = refl
+none_allowed (phase.Writing k r g since) count none = refl
+none_allowed (phase.Patching t r since) count none = refl
 none_allowed (phase.Reading left) count none = ap (λ n. nat_lt 0 n) none
 
 -- nor is one of a seat that does not read
 not_allowed : (b : Books) (seat : Seat) (count : ℕ) → ((root : Option ℕ) (last : Option Key) → seat ≡ Reading root last → ⊥) → ((v : ℕ) (last : Option Place) → seat ≡ ReadingAll v last → ⊥) → allows (seat_view_by b seat) (PieceOf count) ≡ false
 not_allowed b Idle count none none_of_all = refl
-not_allowed b (Writing k r v o) count none none_of_all = refl
-not_allowed b (Patching t r o) count none none_of_all = refl
+not_allowed b (Writing k r v o since) count none none_of_all = refl
+not_allowed b (Patching t r o since) count none none_of_all = refl
 not_allowed b (Reading root last) count none none_of_all = absurd (none root last refl)
 not_allowed b (ReadingAll v last) count none none_of_all = absurd (none_of_all v last refl)
 
 -- so it is refused
 refuses : (b : Books) (s : ℕ) (seat : Seat) (count : ℕ) → allows (seat_view_by b seat) (PieceOf count) ≡ false → IsReady b s seat → Acts b b s seat seat (PieceOf count) (Refused WrongPhase)
 refuses b s Idle count bars = nothing_done b s Idle (PieceOf count) (Refused WrongPhase) bars refl refl refl refl refl
-refuses b s (Writing k r v o) count bars = nothing_done b s (Writing k r v o) (PieceOf count) (Refused WrongPhase) bars refl refl refl refl refl
-refuses b s (Patching t r o) count bars = nothing_done b s (Patching t r o) (PieceOf count) (Refused WrongPhase) bars refl refl refl refl refl
+refuses b s (Writing k r v o since) count bars = nothing_done b s (Writing k r v o since) (PieceOf count) (Refused WrongPhase) bars refl refl refl refl refl
+refuses b s (Patching t r o since) count bars = nothing_done b s (Patching t r o since) (PieceOf count) (Refused WrongPhase) bars refl refl refl refl refl
 refuses b s (Reading root last) count bars = nothing_done b s (Reading root last) (PieceOf count) (Refused WrongPhase) bars refl refl refl refl refl
 refuses b s (ReadingAll v last) count bars = nothing_done b s (ReadingAll v last) (PieceOf count) (Refused WrongPhase) bars refl refl refl refl refl
 

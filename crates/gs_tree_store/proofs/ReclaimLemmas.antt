@@ -28,7 +28,7 @@ use Rattle.gs_tree_store.specs.declared.stores.TreeStore.TheInside.{Inside}
 use Rattle.gs_tree_store.specs.Books.{graphs_of, seat_view_by, upload_tree, read_trees, IsSeat, HasItsVersion, IsSound}
 use Rattle.gs_tree_store.specs.Opened.{IsOpened}
 use Rattle.gs_tree_store.specs.Kept.{shown_of, IsKept}
-use Rattle.gs_tree_store.proofs.AlikeLemmas.{SameNow, alike_dataset, alike_sound}
+use Rattle.gs_tree_store.proofs.AlikeLemmas.{SameNow, alike_dataset, alike_writes, alike_sound}
 use Rattle.gs_tree_store.proofs.PlaceLemmas.{same_map, pin_at, some_of}
 use Rattle.gs_tree_store.proofs.ShownLemmas.{outlives_same, reads_same, KeepsSeat, same_upload, same_read, keeps_seat, seat_stays, shown_stays}
 use Rattle.gs_tree_store.proofs.KeptLemmas.{uploads_of, reads_of}
@@ -72,7 +72,7 @@ module _ (a : Inside) (q : Nodes) (kept : IsKept a) (ledgers : KeepsLedgers a.bo
 
   -- the books are sound with the other pool
   sound_kept : aside_count q ≡ 0 → IsSound (with_pool a q).books
-  sound_kept none = record { versions = versions_kept; none_aside = none; commit = kept.sound.commit; latest = kept.sound.latest; numbers = kept.sound.numbers; base = kept.sound.base }
+  sound_kept none = record { versions = versions_kept; none_aside = none; commit = kept.sound.commit; latest = kept.sound.latest; numbers = kept.sound.numbers; base = kept.sound.base; written = kept.sound.written }
 
   -- Records go too, at most so many as are left of the count once nodes went.
   module _ (r : Recorded) (n freed gone : ℕ) (left rest : Bool) (reclaims : ReclaimsRecords a.books.versions.seats (n - freed) gone rest a.books.records r)
@@ -103,7 +103,7 @@ module _ (a : Inside) (q : Nodes) (kept : IsKept a) (ledgers : KeepsLedgers a.bo
 
     -- the graphs of now are the same
     now_same : SameNow a.books.records r
-    now_same = record { graphs = reclaims.now; latest = reclaims.latest; limit = reclaims.limit }
+    now_same = record { graphs = reclaims.now; latest = reclaims.latest; limit = reclaims.limit; births = reclaims.births }
 
     ledger_kept : IsLedger q a.books.versions (graph_trees q (current r.records)) (uploads_of (reclaimed a q r)) (reads_of (reclaimed a q r)) (dead_at q)
     ledger_kept =
@@ -138,9 +138,10 @@ module _ (a : Inside) (q : Nodes) (kept : IsKept a) (ledgers : KeepsLedgers a.bo
     own_reclaim : Frees a.books.versions.seats n freed left (waste_at a.books.pool) (waste_at q) → Steps (shown_of a) (Reclaim n) (Reclaimed (freed + gone) (left || rest)) (shown_of (reclaimed a q r))
     own_reclaim frees =
         let dataset = alike_dataset (with_pool a q).books r now_same ∙ dataset_kept in
+        let writes = alike_writes (with_pool a q).books r now_same in
         record {
           fits = tt;
-          view = λ i. record { totals = record { setting = (shown_of a).view.totals.setting; dataset = dataset i; request = a.books.request; commit = a.books.versions.commit }; seats = seats_shown i };
+          view = λ i. record { totals = record { setting = (shown_of a).view.totals.setting; dataset = dataset i; request = a.books.request; commit = a.books.versions.commit; last_writes = writes i }; seats = seats_shown i };
           pinned = refl;
           waste = frees_both a.books.versions.seats n freed gone left rest (waste_at a.books.pool) (waste_at q) (waste_in a.books.records.records) (waste_in r.records) frees reclaims.waste;
         }

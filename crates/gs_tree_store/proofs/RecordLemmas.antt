@@ -1,5 +1,5 @@
 -- What commits, a Delete and a Cancel make of the waste of records.
-use Rattle.std.proofs.Common.{◌≡◌, ◌+◌, ◌-◌, ℕ, Bool, true, false, cond, ◌&&◌, ◌||◌, nat_eq, nat_le, nat_lt, is_none, ne_eqb, List, [], ◌∷◌, ◌++◌, length, length-append, Option, Some, None, is_some, refl, sym, ap, subst, ◌∙◌, arith}
+use Rattle.std.proofs.Common.{◌≡◌, ◌+◌, ◌-◌, ℕ, Bool, true, false, cond, ◌&&◌, ◌||◌, nat_eq, nat_le, nat_lt, ◌≤◌, is_none, ne_eqb, List, [], ◌∷◌, ◌++◌, length, length-append, get_or, sum_by, Option, Some, None, is_some, refl, sym, ap, subst, ◌∙◌, arith}
 use Rattle.std.specs.declared.alloc.Global.{Global}
 use Rattle.std.specs.declared.vec.Vec.{Vec}
 use Rattle.std.specs.List.{All}
@@ -23,11 +23,12 @@ use Rattle.gs_event.specs.declared.verdicts.Verdict.TheVariants.{Missing, Full, 
 use Rattle.gs_event.specs.Updates.{patched}
 use Rattle.gs_event.specs.Datasets.{Dataset, graph_at as graph_of_target, is_there, with_graph, records_at, unused_for}
 use Rattle.gs_event.specs.Names.{new_name}
-use Rattle.gs_event.specs.Operations.{Setting, is_within, united, stored, stored_status, is_success}
+use Rattle.gs_event.specs.Operations.{Setting, Posts, Patches, is_within, united, stored, stored_status, is_success}
+use Rattle.gs_event.specs.Conditions.{State, asked_since}
 use Rattle.gs_event.specs.Verdicts.{verdict_of}
 use Rattle.gs_event.specs.Views.{Totals}
 use Rattle.gs_event.specs.Waste.{Lifetime}
-use Rattle.gs_event.specs.Steps.{Joins, JoinsBoth, IsUnreached, EndsAt, CommitRecords, DeleteRecords}
+use Rattle.gs_event.specs.Wasting.{Joins, IsUnreached, CommitRecords, DeleteRecords}
 use Rattle.gs_event.proofs.NameLemmas.{new_name-is_least}
 use Rattle.gs_event.proofs.VerdictLemmas.{made_well}
 use Rattle.gs_pool.specs.Pool.{Nodes}
@@ -45,6 +46,8 @@ use Rattle.gs_tree_store.specs.declared.books.Seat.TheVariants.{Writing, Patchin
 use Rattle.gs_tree_store.specs.Books.{graphs_of, dataset_of, totals_of, IsSound}
 use Rattle.gs_tree_store.specs.Actions.{Acts}
 use Rattle.gs_tree_store.proofs.VerdictLemmas.{size_of_version}
+use Rattle.gs_tree_store.proofs.WrittenLemmas.{ends_record}
+use Rattle.gs_tree_store.proofs.ConditionLemmas.{status_in_time, state_in_time, well_in_time}
 
 -- a tree has no top where it has no key
 no_top : (t : Tree) → (is_none (root_of t) && nat_eq (length (keys t)) 0) ≡ nat_eq (length (keys t)) 0
@@ -110,7 +113,7 @@ commit_wastes b new n t v x commit next puts sound now dataset =
         more = gone;
         few = omega (arith, puts.last.few, target_records b sound t);
         same = λ f. omega (arith, puts.waste f, sum_by-append f gone own, sum_by-append f old own);
-        ended = subst (λ k. All (EndsAt k) gone) next puts.last.ended;
+        ended = λ k l lt. ends_record b t commit (get_or gone k l) sound.written next (puts.last.made k l lt) (puts.last.ended k l lt);
       };
     }
 
@@ -122,18 +125,31 @@ removal_wastes b x t commit next gone sound =
       more = ends;
       few = omega (arith, gone.last.few, target_records b sound t);
       same = gone.waste;
-      ended = subst (λ k. All (EndsAt k) ends) next gone.last.ended;
+      ended = λ k l lt. ends_record b t commit (get_or ends k l) sound.written next (gone.last.made k l lt) (gone.last.ended k l lt);
     }
 
 -- a record that is given up
 pub given_up : (x y : Recorded) (n : ℕ) → GivesUp x y n → Joins IsUnreached 1 (waste_in x.records) (waste_in y.records)
 given_up x y n gives = record { more = lifetimes unused; few = omega arith; same = gives.waste; ended = one_unreached }
 
+-- nothing is counted where there is nothing
+no_more : (ls : List Lifetime) → length ls ≤ 0 → (f : Lifetime → ℕ) → sum_by f ls ≡ 0
+no_more [] few f = refl
+no_more (l ∷ ls) few f = absurd (omega (arith, few))
+
 -- a name that is made up has no record yet
-pub new_wastes : (v : Totals) (r : ℕ) (g : Graph) (old new : List Lifetime) → CommitRecords v (Named (new_name v.setting.base v.dataset r)) g old new → JoinsBoth v.commit 0 0 old new
+pub new_wastes : (v : Totals) (r : ℕ) (g : Graph) (old new : List Lifetime) → CommitRecords v (Named (new_name v.setting.base v.dataset r)) g old new → Joins IsUnreached 0 old new
 new_wastes v r g old new joins =
-    let free = (new_name-is_least v.setting.base v.dataset r).free in
-    subst (λ y. JoinsBoth v.commit 0 (cond {A = ℕ} y 1 0) old new) free joins
+    let name = new_name v.setting.base v.dataset r in
+    let free : records_at v.dataset (Named name) ≡ 0 = ap (λ y. cond {A = ℕ} y 1 0) (new_name-is_least v.setting.base v.dataset r).free in
+    let none = no_more joins.unused.more (omega (arith, joins.unused.few)) in
+    let gone = no_more joins.replaced.more (omega (arith, joins.replaced.few, free)) in
+    record {
+      more = [];
+      few = omega arith;
+      same = λ f. omega (arith, joins.unused.same f, joins.replaced.same f, none f, gone f);
+      ended = All-nil IsUnreached;
+    }
 
 -- where a verdict grants a write, it took effect
 abbrev WellIf : Verdict → Type 0
@@ -182,19 +198,23 @@ changed_so w m t g status well is =
     ] is
 
 -- The records after the commit of an open seat, whose record had number o, by what it made of the books.
-module _ (b new : Books) (s status : ℕ) (now : Seat) (t : Target) (r o : ℕ) (v : GraphVersion) (commit : ℕ) (next : commit ≡ b.versions.commit + 1) (puts : MakesCurrent b.records new.records o t v commit) (sound : IsSound b) (well : is_success status ≡ true) where
-  pub post_wastes : (u : GraphVersion) → Acts b new s (Writing (Post t) r u o) now Commit (Status status None)
+module _ (b new : Books) (s status : ℕ) (now : Seat) (t : Target) (r o : ℕ) (since : Option ℕ) (v : GraphVersion) (commit number : ℕ) (next : commit ≡ b.versions.commit + 1) (puts : MakesCurrent b.records new.records o t v commit) (sound : IsSound b) (well : is_success status ≡ true) where
+  pub post_wastes : (u : GraphVersion) → Acts b new s (Writing (Post t) r u o since) now Commit (Status status None number)
       → CommitRecords (totals_of b) t (united (graph_of_target (dataset_of b) t) (version_graph b.dict.terms b.pool u)) (waste_in b.records.records) (waste_in new.records.records)
   post_wastes u acts =
       let m = dataset_of b in
       let g = united (graph_of_target m t) (version_graph b.dict.terms b.pool u) in
-      let stores = stored_so (totals_of b).setting m t g status well acts.fits.0 in
-      commit_wastes b new o t v g commit next puts sound acts.sound (ap (λ (x : Totals). x.dataset) acts.totals ∙ stores)
+      let q = asked_since since (Posts t (version_graph b.dict.terms b.pool u)) in
+      let in_time = well_in_time (totals_of b) q status well acts.fits.0 in
+      let stores = stored_so (totals_of b).setting m t g status well (acts.fits.0 ∙ status_in_time (totals_of b) q in_time) in
+      commit_wastes b new o t v g commit next puts sound acts.sound (ap (λ (x : Totals). x.dataset) acts.totals ∙ ap (λ (x : State). x.dataset) (state_in_time (totals_of b) q in_time) ∙ stores)
 
-  pub patch_wastes : (ops : Vec Op Global) → Acts b new s (Patching t r o) now (CommitPatch ops) (Status status None)
+  pub patch_wastes : (ops : Vec Op Global) → Acts b new s (Patching t r o since) now (CommitPatch ops) (Status status None number)
       → CommitRecords (totals_of b) t (patched (graph_of_target (dataset_of b) t) ops.items) (waste_in b.records.records) (waste_in new.records.records)
   patch_wastes ops acts =
       let m = dataset_of b in
       let g = patched (graph_of_target m t) ops.items in
-      let stores = changed_so (totals_of b).setting m t g status well acts.fits.0 in
-      commit_wastes b new o t v g commit next puts sound acts.sound (ap (λ (x : Totals). x.dataset) acts.totals ∙ stores)
+      let q = asked_since since (Patches t ops.items) in
+      let in_time = well_in_time (totals_of b) q status well acts.fits.0 in
+      let stores = changed_so (totals_of b).setting m t g status well (acts.fits.0 ∙ status_in_time (totals_of b) q in_time) in
+      commit_wastes b new o t v g commit next puts sound acts.sound (ap (λ (x : Totals). x.dataset) acts.totals ∙ ap (λ (x : State). x.dataset) (state_in_time (totals_of b) q in_time) ∙ stores)

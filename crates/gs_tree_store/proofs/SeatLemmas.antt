@@ -16,6 +16,7 @@ use Rattle.gs_datasets.proofs.Writing.{all_stay}
 use Rattle.gs_tree_store.specs.declared.books.Books.{Books}
 use Rattle.gs_tree_store.specs.declared.books.Seat.{Seat}
 use Rattle.gs_tree_store.specs.declared.books.Seat.TheVariants.{Idle}
+use Rattle.gs_tree_store.specs.LastWrites.{last_writes_of}
 use Rattle.gs_tree_store.specs.Books.{graphs_of, books_setting, dataset_of, totals_of, upload_tree, read_trees, is_reading, IsSound, IsReady, HasLedger, HasLedgerAt}
 
 -- a pin that is none
@@ -29,12 +30,11 @@ still_unpinned b s seat none ready =
     sym (ap (set b.versions.seats s) (sym (none_pinned (get_or b.versions.seats s None) (ready.pinned ∙ none))) ∙ set-get_or b.versions.seats s None)
 
 -- the totals where no graph changed and no number was given out
-pub same_totals : (b c : Books) → books_setting c ≡ books_setting b → dataset_of c ≡ dataset_of b → c.request ≡ b.request → c.versions.commit ≡ b.versions.commit
-    → totals_of c ≡ record { setting = books_setting b; dataset = dataset_of b; request = b.request + 0; commit = b.versions.commit + 0 }
-same_totals b c setting dataset request commit =
+pub same_totals : (b c : Books) → books_setting c ≡ books_setting b → dataset_of c ≡ dataset_of b → c.request ≡ b.request → c.versions.commit ≡ b.versions.commit → last_writes_of c ≡ last_writes_of b
+    → totals_of c ≡ record { setting = books_setting b; dataset = dataset_of b; request = b.request + 0; commit = b.versions.commit; last_writes = last_writes_of b }
+same_totals b c setting dataset request commit writes =
     let asked : c.request ≡ b.request + 0 = request ∙ sym (add-zero b.request) in
-    let last : c.versions.commit ≡ b.versions.commit + 0 = commit ∙ sym (add-zero b.versions.commit) in
-    λ i. record { setting = setting i; dataset = dataset i; request = asked i; commit = last i }
+    λ i. record { setting = setting i; dataset = dataset i; request = asked i; commit = commit i; last_writes = writes i }
 
 -- the books are sound and have the dataset and the trees that they had
 pub record SameGraphs (b c : Books) : Type 0 where
@@ -58,12 +58,13 @@ same_graphs b d q w sound grows same none commit =
         latest = sound.latest ∙ sym commit;
         numbers = sound.numbers;
         base = sound.base;
+        written = sound.written;
       };
     }
 
 -- so they are with another pin
 pub still_sound : (b : Books) (s : ℕ) (pin : Option ℕ) → IsSound b → IsSound (record b { versions = with_pin b.versions s pin })
-still_sound b s pin sound = record { versions = sound.versions; none_aside = sound.none_aside; commit = sound.commit; latest = sound.latest; numbers = sound.numbers; base = sound.base }
+still_sound b s pin sound = record { versions = sound.versions; none_aside = sound.none_aside; commit = sound.commit; latest = sound.latest; numbers = sound.numbers; base = sound.base; written = sound.written }
 
 -- the ledger at a seat's place, where the trees there are those that the seat reads
 pub ledger_stays : (c : Books) (s : ℕ) (now : Seat) (us : List Tree) (rs : List (List Tree)) → get_or rs s [] ≡ read_trees c.pool c.records now → s < length rs → HasLedger c (upload_tree c.pool now ∷ us) rs → HasLedgerAt c s now us (set rs s (read_trees c.pool c.records now))

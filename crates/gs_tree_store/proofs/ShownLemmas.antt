@@ -68,14 +68,14 @@ ReadsSame x y s = Unit {0}
 -- so it is where each pinned version has
 pub reads_same : (x y : Recorded) (pin : Option ℕ) (s : Seat) → HasItsVersion pin s → ((v : ℕ) → pin ≡ Some v → HasSame v x y) → ReadsSame x y s
 reads_same x y pin Idle is same = tt
-reads_same x y pin (Writing k r v o) is same = tt
-reads_same x y pin (Patching t r o) is same = tt
+reads_same x y pin (Writing k r v o since) is same = tt
+reads_same x y pin (Patching t r o since) is same = tt
 reads_same x y pin (Reading root last) is same = tt
 reads_same x y pin (ReadingAll v last) is same = same v is
 
 -- the root of a seat means the same tree in both pools, or so do the roots of its version
 abbrev pub KeepsSeat : Nodes → Nodes → Recorded → Recorded → Seat → Type 0
-KeepsSeat p q x y (Writing k r v o) = tree_at q v.root ≡ tree_at p v.root
+KeepsSeat p q x y (Writing k r v o since) = tree_at q v.root ≡ tree_at p v.root
 KeepsSeat p q x y (Reading root last) = tree_at q root ≡ tree_at p root
 KeepsSeat p q x y (ReadingAll v last) = KeepsVersion p q x y v
 KeepsSeat p q x y s = Unit {0}
@@ -83,15 +83,15 @@ KeepsSeat p q x y s = Unit {0}
 module _ (p q : Nodes) (x y : Recorded) where
   pub same_upload : (s : Seat) → KeepsSeat p q x y s → upload_tree q s ≡ upload_tree p s
   same_upload Idle h = refl
-  same_upload (Writing k r v o) h = h
-  same_upload (Patching t r o) h = refl
+  same_upload (Writing k r v o since) h = h
+  same_upload (Patching t r o since) h = refl
   same_upload (Reading root last) h = refl
   same_upload (ReadingAll v last) h = refl
 
   pub same_read : (s : Seat) → KeepsSeat p q x y s → read_trees q y s ≡ read_trees p x s
   same_read Idle h = refl
-  same_read (Writing k r v o) h = refl
-  same_read (Patching t r o) h = refl
+  same_read (Writing k r v o since) h = refl
+  same_read (Patching t r o since) h = refl
   same_read (Reading root last) h = ap (λ t. t ∷ []) h
   same_read (ReadingAll v last) h = h.reads
 
@@ -99,8 +99,8 @@ module _ (p q : Nodes) (x y : Recorded) where
   pub keeps_seat : AreListed x.records x.listed → AreListed y.records y.listed → (terms : List Term) (s : Seat) → IsSeat terms p x s → IsPlainTree q (upload_tree p s) → (is_reading s ≡ true → All (IsMeant q) (read_trees p x s)) → ReadsSame x y s
       → KeepsSeat p q x y s
   keeps_seat al al_new terms Idle is staged read same = tt
-  keeps_seat al al_new terms (Writing k r v o) is staged read same = ap (tree_at q) (sym is.root_is) ∙ staged.means
-  keeps_seat al al_new terms (Patching t r o) is staged read same = tt
+  keeps_seat al al_new terms (Writing k r v o since) is staged read same = ap (tree_at q) (sym is.root_is) ∙ staged.means
+  keeps_seat al al_new terms (Patching t r o since) is staged read same = tt
   keeps_seat al al_new terms (Reading root last) is staged read same = ap (tree_at q) (sym is.root_is) ∙ (All-head (IsMeant q) (tree_at p root) [] (read refl)).means
   keeps_seat al al_new terms (ReadingAll v last) is staged read same = keeps_version terms p q x y v al al_new is.graphs same (read refl)
 
@@ -112,12 +112,12 @@ module _ (terms now : List Term) (more : Outlives terms now) (p q : Nodes) (x y 
   -- such a seat is one still,
   pub seat_stays : (s : Seat) → IsSeat terms p x s → KeepsSeat p q x y s → IsSeat now q y s
   seat_stays Idle is same = tt
-  seat_stays (Writing k r v o) is same = record {
+  seat_stays (Writing k r v o since) is same = record {
     root_is = ap root_of same ∙ is.root_is;
     keyed = subst (IsKeyed now) (sym same) (more.trees (tree_at p v.root) is.keyed).keyed;
     counted = is.counted ∙ sym (ap (λ t. length (keys t)) same);
   }
-  seat_stays (Patching t r o) is same = tt
+  seat_stays (Patching t r o since) is same = tt
   seat_stays (Reading root last) is same = record {
     root_is = ap root_of same ∙ is.root_is;
     keyed = subst (IsKeyed now) (sym same) (more.trees (tree_at p root) is.keyed).keyed;
@@ -130,8 +130,8 @@ module _ (terms now : List Term) (more : Outlives terms now) (p q : Nodes) (x y 
   -- and shows what it showed
   pub shown_stays : (s : Seat) → IsSeat terms p x s → KeepsSeat p q x y s → seat_shown now q y s ≡ seat_shown terms p x s
   shown_stays Idle is same = refl
-  shown_stays (Writing k r v o) is same = ap (λ g. phase.Writing k r g) (ap (tree_graph now) same ∙ (more.trees (tree_at p v.root) is.keyed).same)
-  shown_stays (Patching t r o) is same = refl
+  shown_stays (Writing k r v o since) is same = ap (λ g. phase.Writing k r g since) (ap (tree_graph now) same ∙ (more.trees (tree_at p v.root) is.keyed).same)
+  shown_stays (Patching t r o since) is same = refl
   shown_stays (Reading root last) is same =
       ap (λ ls. phase.Reading ls) (ap (λ t. map (line_at now) (keys_from (key_cmp now) last (keys t))) same ∙ more.lines last (keys (tree_at p root)) is.given is.keyed.given)
   shown_stays (ReadingAll v last) is same = ap (λ ls. phase.Reading ls) (goes_on v last is same).lines
@@ -143,8 +143,8 @@ reads_now p = false
 
 reads_shown : (terms : List Term) (p : Nodes) (x : Recorded) (s : Seat) → reads_now (seat_shown terms p x s) ≡ is_reading s
 reads_shown terms p x Idle = refl
-reads_shown terms p x (Writing k r v o) = refl
-reads_shown terms p x (Patching t r o) = refl
+reads_shown terms p x (Writing k r v o since) = refl
+reads_shown terms p x (Patching t r o since) = refl
 reads_shown terms p x (Reading root last) = refl
 reads_shown terms p x (ReadingAll v last) = refl
 
@@ -158,21 +158,21 @@ ends false pin left e = e
 
 -- a pin begins and ends as a read does
 pin_follows : (v : Totals) (commit : ℕ) (pin : Option ℕ) (p : SeatView) (action : Action) (a : Answer) → FitsSeat v p action a → is_some pin ≡ reads_now p → is_some (pin_after commit pin action a) ≡ reads_now (next_phase v p action a)
-pin_follows v commit pin phase.Idle (Open k) (Opened r) fits e = e
-pin_follows v commit pin phase.Idle (OpenPatch t) (Opened r) fits e = e
-pin_follows v commit pin phase.Idle (Pin t) (Pinned s) fits e = begins (nat_eq s 200) commit pin _ e
+pin_follows v commit pin phase.Idle (Open k since) (Opened r) fits e = e
+pin_follows v commit pin phase.Idle (OpenPatch t since) (Opened r) fits e = e
+pin_follows v commit pin phase.Idle (Pin t) (Pinned s number) fits e = begins (nat_eq s 200) commit pin _ e
 pin_follows v commit pin phase.Idle (Piece n) (Lines b end) fits e = absurd fits
 pin_follows v commit pin phase.Idle Cancel Cancelled fits e = absurd fits
-pin_follows v commit pin (phase.Writing k r g) (Stage ts) Staged fits e = e
-pin_follows v commit pin (phase.Writing k r g) Commit (Status s name) fits e = e
-pin_follows v commit pin (phase.Writing k r g) Cancel Cancelled fits e = refl
-pin_follows v commit pin (phase.Writing k r g) (Pin t) (Pinned s) fits e = absurd fits
-pin_follows v commit pin (phase.Writing k r g) (Piece n) (Lines b end) fits e = absurd fits
-pin_follows v commit pin (phase.Patching t r) (CommitPatch ops) (Status s name) fits e = e
-pin_follows v commit pin (phase.Patching t r) Cancel Cancelled fits e = refl
-pin_follows v commit pin (phase.Patching t r) (Pin u) (Pinned s) fits e = absurd fits
-pin_follows v commit pin (phase.Patching t r) (Piece n) (Lines b end) fits e = absurd fits
-pin_follows v commit pin (phase.Reading left) (Pin t) (Pinned s) fits e = absurd fits
+pin_follows v commit pin (phase.Writing k r g since) (Stage ts) Staged fits e = e
+pin_follows v commit pin (phase.Writing k r g since) Commit (Status s name number) fits e = e
+pin_follows v commit pin (phase.Writing k r g since) Cancel Cancelled fits e = refl
+pin_follows v commit pin (phase.Writing k r g since) (Pin t) (Pinned s number) fits e = absurd fits
+pin_follows v commit pin (phase.Writing k r g since) (Piece n) (Lines b end) fits e = absurd fits
+pin_follows v commit pin (phase.Patching t r since) (CommitPatch ops) (Status s name number) fits e = e
+pin_follows v commit pin (phase.Patching t r since) Cancel Cancelled fits e = refl
+pin_follows v commit pin (phase.Patching t r since) (Pin u) (Pinned s number) fits e = absurd fits
+pin_follows v commit pin (phase.Patching t r since) (Piece n) (Lines b end) fits e = absurd fits
+pin_follows v commit pin (phase.Reading left) (Pin t) (Pinned s number) fits e = absurd fits
 pin_follows v commit pin (phase.Reading left) (Piece n) (Lines b end) fits e = ends end pin _ e
 pin_follows v commit pin (phase.Reading left) Cancel Cancelled fits e = refl
 pin_follows v commit pin p action a fits e = e

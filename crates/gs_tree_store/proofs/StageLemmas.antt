@@ -1,5 +1,5 @@
 -- What a Stage makes of the books and of the seat.
-use Rattle.std.proofs.Common.{◌≡◌, ℕ, ◌+◌, ◌^◌, ◌<◌, List, length, None, refl, sym, ap, subst, ◌∙◌, arith}
+use Rattle.std.proofs.Common.{◌≡◌, ℕ, ◌+◌, ◌^◌, ◌<◌, List, length, Option, None, refl, sym, ap, subst, ◌∙◌, arith}
 use Rattle.std.proofs.lemmas.List.{set-get_or}
 use Rattle.std.proofs.lemmas.List.Elements.{All-head}
 use Rattle.std.specs.declared.alloc.Global.{Global}
@@ -34,22 +34,22 @@ use Rattle.gs_tree_store.proofs.SeatLemmas.{same_totals, same_graphs, ledger_sta
 use Rattle.gs_tree_store.proofs.UploadLemmas.{moved_graphs, moved_ledger, moved_waste}
 
 -- an upload has no more triples than there are numbers of nodes
-few_here : (b : Books) (s : ℕ) (k : UploadKind) (r birth : ℕ) (v : GraphVersion) (o : ℕ) (d : Numbered) (q : Nodes) (ts : List RdfTriple) (m : Merged) → length q.nodes < 2 ^ 32 → Stages birth b.dict.terms d.terms b.pool q v.root ts m
-    → IsReady b s (Writing k r v o) → v.triples + m.added < 2 ^ 32
-few_here b s k r birth v o d q ts m small stages ready =
+few_here : (b : Books) (s : ℕ) (k : UploadKind) (r birth : ℕ) (v : GraphVersion) (o : ℕ) (since : Option ℕ) (d : Numbered) (q : Nodes) (ts : List RdfTriple) (m : Merged) → length q.nodes < 2 ^ 32 → Stages birth b.dict.terms d.terms b.pool q v.root ts m
+    → IsReady b s (Writing k r v o since) → v.triples + m.added < 2 ^ 32
+few_here b s k r birth v o since d q ts m small stages ready =
     let few = few_keys (key_cmp d.terms) q m.root stages.unites.set small in
     omega (arith, few, stages.unites.counted, ready.known.counted)
 
-pub few_triples : (b : Books) (seat : Seat) (k : UploadKind) (r birth : ℕ) (v : GraphVersion) (o : ℕ) (d : Numbered) (q : Nodes) (ts : List RdfTriple) (m : Merged) → seat ≡ Writing k r v o → length q.nodes < 2 ^ 32 → Stages birth b.dict.terms d.terms b.pool q v.root ts m
+pub few_triples : (b : Books) (seat : Seat) (k : UploadKind) (r birth : ℕ) (v : GraphVersion) (o : ℕ) (since : Option ℕ) (d : Numbered) (q : Nodes) (ts : List RdfTriple) (m : Merged) → seat ≡ Writing k r v o since → length q.nodes < 2 ^ 32 → Stages birth b.dict.terms d.terms b.pool q v.root ts m
     → IsReadyAny b seat → v.triples + m.added < 2 ^ 32
-few_triples b seat k r birth v o d q ts m writes small stages =
+few_triples b seat k r birth v o since d q ts m writes small stages =
     subst (λ x. IsReadyAny b x → v.triples + m.added < 2 ^ 32) (sym writes)
-    (λ (any : IsReadyAny b (Writing k r v o)). few_here b any.number k r birth v o d q ts m small stages any.ready)
+    (λ (any : IsReadyAny b (Writing k r v o since)). few_here b any.number k r birth v o since d q ts m small stages any.ready)
 
 -- a piece that was refused: there may be more terms
-refused_here : (b : Books) (s : ℕ) (k : UploadKind) (r : ℕ) (v : GraphVersion) (o : ℕ) (ts : Vec RdfTriple Global) (d : Numbered) → Grows b.dict d → IsReady b s (Writing k r v o)
-    → Acts b (record b { dict = d }) s (Writing k r v o) (Writing k r v o) (Stage ts) (Refused NoMemory)
-refused_here b s k r v o ts d grows ready =
+refused_here : (b : Books) (s : ℕ) (k : UploadKind) (r : ℕ) (v : GraphVersion) (o : ℕ) (since : Option ℕ) (ts : Vec RdfTriple Global) (d : Numbered) → Grows b.dict d → IsReady b s (Writing k r v o since)
+    → Acts b (record b { dict = d }) s (Writing k r v o since) (Writing k r v o since) (Stage ts) (Refused NoMemory)
+refused_here b s k r v o since ts d grows ready =
     let terms = b.dict.terms in
     let p = b.pool in
     let tree = tree_at p v.root in
@@ -57,28 +57,28 @@ refused_here b s k r v o ts d grows ready =
     let outlasts : Outlasts terms d.terms tree = subst (λ xs. Outlasts terms xs tree) (sym grows.terms) (keys_outlast terms grows.more tree ready.known.keyed) in
     record {
       fits = tt;
-      totals = same_totals b (record b { dict = d }) refl kept.dataset refl refl;
-      seat = ap (λ g. phase.Writing k r g) outlasts.same;
+      totals = same_totals b (record b { dict = d }) refl kept.dataset refl refl refl;
+      seat = ap (λ g. phase.Writing k r g since) outlasts.same;
       pins = sym (set-get_or b.versions.seats s None);
       sound = kept.sound;
       known = record { root_is = ready.known.root_is; keyed = outlasts.keyed; counted = ready.known.counted };
       version = tt;
       grows = grows;
-      ledgers = λ us rs l. record { ledger = ledger_stays (record b { dict = d }) s (Writing k r v o) us rs l.read l.there l.ledger; waste = refl };
+      ledgers = λ us rs l. record { ledger = ledger_stays (record b { dict = d }) s (Writing k r v o since) us rs l.read l.there l.ledger; waste = refl };
       takes = refl;
     }
 
-pub stage_refused : (b : Books) (seat : Seat) (k : UploadKind) (r : ℕ) (v : GraphVersion) (o : ℕ) (ts : Vec RdfTriple Global) (d : Numbered) (q : Nodes) → seat ≡ Writing k r v o → Grows b.dict d → q ≡ b.pool
-    → ActsAny b (record b { dict = d; pool = q }) seat (Writing k r v o) (Stage ts) (Refused NoMemory)
-stage_refused b seat k r v o ts d q writes grows same s =
-    subst (λ x. IsReady b s x → Acts b (record b { dict = d; pool = q }) s x (Writing k r v o) (Stage ts) (Refused NoMemory)) (sym writes)
-    (λ ready. subst (λ y. Acts b (record b { dict = d; pool = y }) s (Writing k r v o) (Writing k r v o) (Stage ts) (Refused NoMemory)) (sym same) (refused_here b s k r v o ts d grows ready))
+pub stage_refused : (b : Books) (seat : Seat) (k : UploadKind) (r : ℕ) (v : GraphVersion) (o : ℕ) (since : Option ℕ) (ts : Vec RdfTriple Global) (d : Numbered) (q : Nodes) → seat ≡ Writing k r v o since → Grows b.dict d → q ≡ b.pool
+    → ActsAny b (record b { dict = d; pool = q }) seat (Writing k r v o since) (Stage ts) (Refused NoMemory)
+stage_refused b seat k r v o since ts d q writes grows same s =
+    subst (λ x. IsReady b s x → Acts b (record b { dict = d; pool = q }) s x (Writing k r v o since) (Stage ts) (Refused NoMemory)) (sym writes)
+    (λ ready. subst (λ y. Acts b (record b { dict = d; pool = y }) s (Writing k r v o since) (Writing k r v o since) (Stage ts) (Refused NoMemory)) (sym same) (refused_here b s k r v o since ts d grows ready))
 
 -- a piece that went in
-staged : (b : Books) (s : ℕ) (k : UploadKind) (r birth : ℕ) (v : GraphVersion) (o : ℕ) (ts : Vec RdfTriple Global) (d : Numbered) (q : Nodes) (m : Merged) → birth ≡ b.versions.commit + 1 → Grows b.dict d
-    → Stages birth b.dict.terms d.terms b.pool q v.root ts.items m → IsReady b s (Writing k r v o)
-    → Acts b (record b { dict = d; pool = q }) s (Writing k r v o) (Writing k r (record { root = m.root; triples = v.triples + m.added }) o) (Stage ts) Staged
-staged b s k r birth v o ts d q m born grows stages ready =
+staged : (b : Books) (s : ℕ) (k : UploadKind) (r birth : ℕ) (v : GraphVersion) (o : ℕ) (since : Option ℕ) (ts : Vec RdfTriple Global) (d : Numbered) (q : Nodes) (m : Merged) → birth ≡ b.versions.commit + 1 → Grows b.dict d
+    → Stages birth b.dict.terms d.terms b.pool q v.root ts.items m → IsReady b s (Writing k r v o since)
+    → Acts b (record b { dict = d; pool = q }) s (Writing k r v o since) (Writing k r (record { root = m.root; triples = v.triples + m.added }) o since) (Stage ts) Staged
+staged b s k r birth v o since ts d q m born grows stages ready =
     let p = b.pool in
     let w = b.versions in
     let g = graphs_of b in
@@ -97,8 +97,8 @@ staged b s k r birth v o ts d q m born grows stages ready =
     let larger : size_of (with_triples (graph_of_root b.dict.terms p v.root) ts.items) ≡ size_of (graph_of_root b.dict.terms p v.root) + m.added = sym (ap size_of stages.graph) ∙ stages.added in
     record {
       fits = tt;
-      totals = same_totals b now refl kept.dataset refl refl;
-      seat = ap (λ x. phase.Writing k r x) stages.graph;
+      totals = same_totals b now refl kept.dataset refl refl refl;
+      seat = ap (λ x. phase.Writing k r x since) stages.graph;
       pins = sym (set-get_or w.seats s None);
       sound = kept.sound;
       known = record {
@@ -109,16 +109,16 @@ staged b s k r birth v o ts d q m born grows stages ready =
       version = tt;
       grows = grows;
       ledgers = λ us rs l. record {
-        ledger = ledger_stays now s (Writing k r (record { root = m.root; triples = v.triples + m.added }) o) us rs l.read l.there (moved_ledger b d q birth old new grows ready.sound u.step tree none some.uploads some.reads some.ledger.ledger us rs l.ledger);
+        ledger = ledger_stays now s (Writing k r (record { root = m.root; triples = v.triples + m.added }) o since) us rs l.read l.there (moved_ledger b d q birth old new grows ready.sound u.step tree none some.uploads some.reads some.ledger.ledger us rs l.ledger);
         waste = moved_waste b d q birth old new grows ready.sound u.step tree none some.uploads some.reads some.ledger.ledger;
       };
       takes = omega (arith, used, larger);
     }
 
-pub stage_done : (b : Books) (seat : Seat) (k : UploadKind) (r birth : ℕ) (v : GraphVersion) (o : ℕ) (ts : Vec RdfTriple Global) (xs : List RdfTriple) (d : Numbered) (q : Nodes) (m : Merged) → seat ≡ Writing k r v o → xs ≡ ts.items → birth ≡ b.versions.commit + 1
+pub stage_done : (b : Books) (seat : Seat) (k : UploadKind) (r birth : ℕ) (v : GraphVersion) (o : ℕ) (since : Option ℕ) (ts : Vec RdfTriple Global) (xs : List RdfTriple) (d : Numbered) (q : Nodes) (m : Merged) → seat ≡ Writing k r v o since → xs ≡ ts.items → birth ≡ b.versions.commit + 1
     → Grows b.dict d → Stages birth b.dict.terms d.terms b.pool q v.root xs m
-    → ActsAny b (record b { dict = d; pool = q }) seat (Writing k r (record { root = m.root; triples = v.triples + m.added }) o) (Stage ts) Staged
-stage_done b seat k r birth v o ts xs d q m writes items born grows stages s =
+    → ActsAny b (record b { dict = d; pool = q }) seat (Writing k r (record { root = m.root; triples = v.triples + m.added }) o since) (Stage ts) Staged
+stage_done b seat k r birth v o since ts xs d q m writes items born grows stages s =
     let here : Stages birth b.dict.terms d.terms b.pool q v.root ts.items m = subst (λ ys. Stages birth b.dict.terms d.terms b.pool q v.root ys m) items stages in
-    subst (λ x. IsReady b s x → Acts b (record b { dict = d; pool = q }) s x (Writing k r (record { root = m.root; triples = v.triples + m.added }) o) (Stage ts) Staged) (sym writes)
-    (staged b s k r birth v o ts d q m born grows here)
+    subst (λ x. IsReady b s x → Acts b (record b { dict = d; pool = q }) s x (Writing k r (record { root = m.root; triples = v.triples + m.added }) o since) (Stage ts) Staged) (sym writes)
+    (staged b s k r birth v o since ts d q m born grows here)

@@ -10,7 +10,8 @@ use Rattle.gs_event.specs.declared.answers.Answer.{Answer}
 use Rattle.gs_event.specs.declared.answers.Answer.TheVariants.{Reclaimed, Refused}
 use Rattle.gs_event.specs.Views.{next_at, next_if}
 use Rattle.gs_event.specs.Waste.{Shown, nodes_in}
-use Rattle.gs_event.specs.Steps.{WastesBoth, WastesIf, Steps}
+use Rattle.gs_event.specs.Wasting.{WastesBoth, WastesIf}
+use Rattle.gs_event.specs.Steps.{Steps}
 use Rattle.gs_event.proofs.PinLemmas.{refused_pin}
 use Rattle.gs_event.proofs.NodeLemmas.{gives_back}
 use Rattle.gs_pool.specs.Pool.{in_use}
@@ -22,7 +23,8 @@ use Rattle.gs_tree_store.specs.declared.books.Seat.{Seat}
 use Rattle.gs_tree_store.specs.declared.stores.TreeStore.TheInside.{Inside}
 use Rattle.gs_tree_store.specs.Books.{totals_of, seat_view_by}
 use Rattle.gs_tree_store.specs.Opened.{KeepsRecords}
-use Rattle.gs_tree_store.specs.Actions.{SeatUses, Acts}
+use Rattle.gs_tree_store.specs.Uses.{SeatUses}
+use Rattle.gs_tree_store.specs.Actions.{Acts}
 use Rattle.gs_tree_store.specs.Uses.{UsesAt, UsesNodes}
 use Rattle.gs_tree_store.specs.Kept.{shown_of, IsKept}
 use Rattle.gs_tree_store.proofs.JoinLemmas.{both_waste, both_take}

@@ -5,15 +5,17 @@ use Rattle.gs_event.specs.declared.events.Action.{Action}
 use Rattle.gs_event.specs.declared.answers.Answer.{Answer}
 use Rattle.gs_event.specs.Phases as phase
 use Rattle.gs_event.specs.Views.{FitsSeat, next_totals, next_phase}
-use Rattle.gs_event.specs.Steps.{pin_after, WastesNodes}
+use Rattle.gs_event.specs.Wasting.{WastesNodes}
+use Rattle.gs_event.specs.Steps.{pin_after}
 use Rattle.gs_dict.specs.Numbering.{Numbered}
 use Rattle.gs_pool.specs.Pool.{Nodes, in_use}
-use Rattle.gs_tree.specs.Tree.{Tree, root_of, keys, tree_at}
+use Rattle.gs_tree.specs.Tree.{Tree, leaf, root_of, keys, tree_at}
 use Rattle.gs_keys.specs.Roots.{graph_of_root}
 use Rattle.gs_staging.specs.Keys.{Grows}
 use Rattle.gs_staging.proofs.KeyLemmas.{still_grows, grows_twice}
 use Rattle.gs_changes.specs.Endings.{Restores}
 use Rattle.gs_catalogue.specs.declared.versions.GraphVersion.{GraphVersion}
+use Rattle.gs_versions.specs.Pins.{with_pin}
 use Rattle.gs_ledger.specs.Marks.{dead_at, waste_at}
 use Rattle.gs_ledger.specs.Ledger.{IsLedger}
 use Rattle.gs_commit.specs.Laws.{IsSamePool}
@@ -25,9 +27,10 @@ use Rattle.gs_quads.specs.Places.{root_at, version_numbers}
 use Rattle.gs_tree_store.specs.declared.books.Books.{Books}
 use Rattle.gs_tree_store.specs.declared.books.Seat.{Seat}
 use Rattle.gs_tree_store.specs.declared.books.Seat.TheVariants.{Idle, Writing, Patching, Reading, ReadingAll}
-use Rattle.gs_tree_store.specs.Books.{graphs_of, books_setting, dataset_of, totals_of, seat_view_by, upload_tree, read_trees, is_reading, IsSeat, HasItsVersion, IsSound, IsReady, HasLedgerAt}
+use Rattle.gs_tree_store.specs.LastWrites.{last_writes_of}
+use Rattle.gs_tree_store.specs.Books.{graphs_of, books_setting, dataset_of, totals_of, seat_view_by, upload_tree, read_trees, is_reading, IsSeat, HasItsVersion, IsSound, IsReady, HasLedger, HasLedgerAt}
 use Rattle.gs_tree_store.specs.Actions.{TakesNodes, Acts}
-use Rattle.gs_tree_store.proofs.SeatLemmas.{SameGraphs, same_graphs, same_totals, ledger_stays}
+use Rattle.gs_tree_store.proofs.SeatLemmas.{SameGraphs, same_graphs, same_totals, still_sound, ledger_stays, read_ends}
 
 -- the books with other terms and another pool
 abbrev pub with_nodes : Books → Numbered → Nodes → Books
@@ -42,7 +45,7 @@ module _ (b : Books) (d : Numbered) (q : Nodes) (grows : Grows b.dict d) (restor
 
   -- the totals are the same
   totals_same : totals_of (with_nodes b d q) ≡ totals_of b
-  totals_same i = record { setting = books_setting b; dataset = kept.dataset i; request = b.request; commit = b.versions.commit }
+  totals_same i = record { setting = books_setting b; dataset = kept.dataset i; request = b.request; commit = b.versions.commit; last_writes = last_writes_of b }
 
   module _ (v : GraphVersion) (is : IsVersion b.dict.terms b.pool v) where
     outlasts : Outlasts b.dict.terms d.terms (tree_at b.pool v.root)
@@ -61,29 +64,29 @@ module _ (b : Books) (d : Numbered) (q : Nodes) (grows : Grows b.dict d) (restor
   -- and so is what a seat shows that does not read
   view_same : (seat : Seat) → is_reading seat ≡ false → IsSeat b.dict.terms b.pool b.records seat → seat_view_by (with_nodes b d q) seat ≡ seat_view_by b seat
   view_same Idle none known = refl
-  view_same (Writing k r v o) none known = ap (λ g. phase.Writing k r g) (graph_same v known)
-  view_same (Patching t r o) none known = refl
+  view_same (Writing k r v o since) none known = ap (λ g. phase.Writing k r g since) (graph_same v known)
+  view_same (Patching t r o since) none known = refl
   view_same (Reading root last) none known = absurd (true≢false none)
   view_same (ReadingAll v last) none known = absurd (true≢false none)
 
   known_same : (seat : Seat) → is_reading seat ≡ false → IsSeat b.dict.terms b.pool b.records seat → IsSeat d.terms q b.records seat
   known_same Idle none known = tt
-  known_same (Writing k r v o) none known = version_same v known
-  known_same (Patching t r o) none known = tt
+  known_same (Writing k r v o since) none known = version_same v known
+  known_same (Patching t r o since) none known = tt
   known_same (Reading root last) none known = absurd (true≢false none)
   known_same (ReadingAll v last) none known = absurd (true≢false none)
 
   upload_same : (seat : Seat) → upload_tree q seat ≡ upload_tree b.pool seat
   upload_same Idle = refl
-  upload_same (Writing k r v o) = same.roots v.root
-  upload_same (Patching t r o) = refl
+  upload_same (Writing k r v o since) = same.roots v.root
+  upload_same (Patching t r o since) = refl
   upload_same (Reading root last) = refl
   upload_same (ReadingAll v last) = refl
 
   read_same : (seat : Seat) → read_trees q b.records seat ≡ read_trees b.pool b.records seat
   read_same Idle = refl
-  read_same (Writing k r v o) = refl
-  read_same (Patching t r o) = refl
+  read_same (Writing k r v o since) = refl
+  read_same (Patching t r o since) = refl
   read_same (Reading root last) = ap (λ t. t ∷ []) (same.roots root)
   read_same (ReadingAll v last) = λ i. map (λ (n : ℕ). same.roots (root_at b.records.records n) i) (version_numbers v b.records)
 
@@ -146,7 +149,7 @@ module _ (b : Books) (d : Numbered) (q : Nodes) (grows : Grows b.dict d) (restor
 
 -- Nothing changes, and the answer says so.
 pub nothing_done : (b : Books) (s : ℕ) (seat : Seat) (action : Action) (a : Answer) → FitsSeat (totals_of b) (seat_view_by b seat) action a
-    → next_totals (totals_of b) (seat_view_by b seat) action a ≡ record { setting = books_setting b; dataset = dataset_of b; request = b.request + 0; commit = b.versions.commit + 0 }
+    → next_totals (totals_of b) (seat_view_by b seat) action a ≡ record { setting = books_setting b; dataset = dataset_of b; request = b.request + 0; commit = b.versions.commit; last_writes = last_writes_of b }
     → next_phase (totals_of b) (seat_view_by b seat) action a ≡ seat_view_by b seat
     → pin_after b.versions.commit (get_or b.versions.seats s None) action a ≡ get_or b.versions.seats s None
     → WastesNodes (totals_of b) (seat_view_by b seat) action a (waste_at b.pool) (waste_at b.pool)
@@ -154,7 +157,7 @@ pub nothing_done : (b : Books) (s : ℕ) (seat : Seat) (action : Action) (a : An
     → IsReady b s seat → Acts b b s seat seat action a
 nothing_done b s seat action a fits totals phase pin waste takes ready = record {
   fits = fits;
-  totals = same_totals b b refl refl refl refl ∙ sym totals;
+  totals = same_totals b b refl refl refl refl refl ∙ sym totals;
   seat = sym phase;
   pins = sym (ap (set b.versions.seats s) pin ∙ set-get_or b.versions.seats s None);
   sound = ready.sound;
@@ -162,5 +165,27 @@ nothing_done b s seat action a fits totals phase pin waste takes ready = record 
   version = subst (λ x. HasItsVersion x seat) (sym pin) ready.version;
   grows = still_grows b.dict b.dict refl;
   ledgers = λ us rs l. record { ledger = ledger_stays b s seat us rs l.read l.there l.ledger; waste = waste };
+  takes = takes;
+}
+
+-- A read ends, or is given up: its seat is idle, and has nothing pinned.
+pub read_over : (b : Books) (s : ℕ) (was : Seat) (action : Action) (a : Answer) → FitsSeat (totals_of b) (seat_view_by b was) action a
+    → next_totals (totals_of b) (seat_view_by b was) action a ≡ record { setting = books_setting b; dataset = dataset_of b; request = b.request + 0; commit = b.versions.commit; last_writes = last_writes_of b }
+    → next_phase (totals_of b) (seat_view_by b was) action a ≡ phase.Idle
+    → pin_after b.versions.commit (get_or b.versions.seats s None) action a ≡ None
+    → upload_tree b.pool was ≡ leaf
+    → WastesNodes (totals_of b) (seat_view_by b was) action a (waste_at b.pool) (waste_at b.pool)
+    → TakesNodes (seat_view_by b was) action a (in_use b.pool) (in_use b.pool)
+    → IsReady b s was → Acts b (record b { versions = with_pin b.versions s None }) s was Idle action a
+read_over b s was action a fits totals next pin none waste takes ready = record {
+  fits = fits;
+  totals = same_totals b (record b { versions = with_pin b.versions s None }) refl refl refl refl refl ∙ sym totals;
+  seat = sym next;
+  pins = ap (set b.versions.seats s) (sym pin);
+  sound = still_sound b s None ready.sound;
+  known = tt;
+  version = tt;
+  grows = still_grows b.dict b.dict refl;
+  ledgers = λ us rs l. record { ledger = read_ends b s us rs ready.there l.there (subst (λ t. HasLedger b (t ∷ us) rs) none l.ledger); waste = waste };
   takes = takes;
 }

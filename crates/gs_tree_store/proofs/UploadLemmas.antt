@@ -1,20 +1,29 @@
 -- An upload whose tree is another one, or none, and what stays beside it.
-use Rattle.std.proofs.Common.{◌≡◌, ℕ, ◌+◌, List, [], ◌∷◌, ◌++◌, length, take, None, refl, sym, ap, subst, ◌∙◌, inl, arith}
+use Rattle.std.proofs.Common.{◌≡◌, ℕ, ◌+◌, List, [], ◌∷◌, ◌++◌, length, take, Option, None, refl, sym, ap, subst, ◌∙◌, inl, arith}
 use Rattle.std.proofs.lemmas.List.{take_all}
 use Rattle.std.proofs.lemmas.List.Elements.{All-head}
 use Rattle.std.proofs.lemmas.List.Sums.{sum_by-cons}
 use Rattle.std.specs.declared.cmp.Ordering.{Ordering}
 use Rattle.gs_pool.specs.declared.nodes.Key.{Key}
 use Rattle.gs_pool.specs.Pool.{Nodes, in_use, aside_count}
-use Rattle.gs_tree.specs.Tree.{Tree, root_of, keys, occurrences, tree_at}
+use Rattle.gs_tree.specs.Tree.{Tree, leaf, root_of, keys, occurrences, tree_at}
 use Rattle.gs_tree.specs.Sets.{IsSetAt}
 use Rattle.gs_tree.specs.Steps.{Step}
 use Rattle.gs_tree.specs.Reading.{keys_from}
 use Rattle.gs_tree.proofs.FromLemmas.{from_all}
 use Rattle.gs_tree.proofs.TreeLemmas.{plain_count_same}
+use Rattle.gs_model.specs.declared.refusals.Refusal.TheVariants.{NoMemory}
+use Rattle.gs_term.specs.declared.names.Target.{Target}
 use Rattle.gs_event.specs.declared.events.UploadKind.{UploadKind}
+use Rattle.gs_event.specs.declared.events.UploadKind.TheVariants.{Post}
+use Rattle.gs_event.specs.declared.events.Action.TheVariants.{Commit}
+use Rattle.gs_event.specs.declared.answers.Answer.{Answer}
+use Rattle.gs_event.specs.declared.answers.Answer.TheVariants.{Refused}
+use Rattle.gs_event.specs.Operations.{Posts}
+use Rattle.gs_event.specs.Conditions.{asked_since}
 use Rattle.gs_dict.specs.Numbering.{Numbered}
 use Rattle.gs_keys.specs.Texts.{key_cmp}
+use Rattle.gs_keys.specs.Roots.{graph_of_root}
 use Rattle.gs_changes.specs.Endings.{IsDraftAt, Restores}
 use Rattle.gs_staging.specs.Staging.{IsStaged}
 use Rattle.gs_catalogue.specs.declared.versions.GraphVersion.{GraphVersion}
@@ -30,10 +39,12 @@ use Rattle.gs_datasets.proofs.Keeping.{ledger_has_sets, graphs_stay}
 use Rattle.gs_tree_store.specs.declared.books.Books.{Books}
 use Rattle.gs_tree_store.specs.declared.books.Seat.{Seat}
 use Rattle.gs_tree_store.specs.declared.books.Seat.TheVariants.{Writing}
-use Rattle.gs_tree_store.specs.Books.{graphs_of, IsSound, HasLedger, IsReady}
-use Rattle.gs_tree_store.specs.Actions.{IsReadyAny}
+use Rattle.gs_tree_store.specs.LastWrites.{late_write_of}
+use Rattle.gs_tree_store.specs.Books.{graphs_of, totals_of, IsSound, HasLedger, IsReady}
+use Rattle.gs_tree_store.specs.Actions.{Acts, IsReadyAny}
 use Rattle.gs_tree_store.proofs.SeatLemmas.{SameGraphs, same_graphs}
-use Rattle.gs_tree_store.proofs.UndoneLemmas.{with_nodes}
+use Rattle.gs_tree_store.proofs.ConditionLemmas.{wants_in_time, upload_in_time}
+use Rattle.gs_tree_store.proofs.UndoneLemmas.{with_nodes, nothing_done}
 
 -- all keys were read into an empty list
 pub all_read : (cmp : Key → Key → Ordering) (n : ℕ) (ks xs ys : List Key) → n ≡ length ks → xs ≡ [] → ys ≡ xs ++ take n (keys_from cmp None ks) → ys ≡ ks
@@ -41,8 +52,8 @@ all_read cmp n ks xs ys all none read =
     read ∙ ap (λ zs. zs ++ take n (keys_from cmp None ks)) none ∙ ap (take n) (from_all cmp ks) ∙ take_all n ks (omega (arith, all))
 
 -- an upload has a tree that triples can go into
-staged_here : (b : Books) (s : ℕ) (k : UploadKind) (r : ℕ) (v : GraphVersion) (o : ℕ) → IsReady b s (Writing k r v o) → IsStaged b.dict.terms b.pool v.root
-staged_here b s k r v o ready =
+staged_here : (b : Books) (s : ℕ) (k : UploadKind) (r : ℕ) (v : GraphVersion) (o : ℕ) (since : Option ℕ) → IsReady b s (Writing k r v o since) → IsStaged b.dict.terms b.pool v.root
+staged_here b s k r v o since ready =
     let terms = b.dict.terms in
     let p = b.pool in
     let some = ready.ledger in
@@ -51,19 +62,23 @@ staged_here b s k r v o ready =
     let one = All-head (λ (t : Tree). IsKeyed terms t → IsSetAt (key_cmp terms) p (root_of t)) tree some.uploads sets.staged ready.known.keyed in
     record { set = subst (IsSetAt (key_cmp terms) p) ready.known.root_is one; given = ready.known.keyed.given }
 
-pub upload_staged : (b : Books) (seat : Seat) (k : UploadKind) (r : ℕ) (v : GraphVersion) (o : ℕ) → seat ≡ Writing k r v o → IsReadyAny b seat → IsStaged b.dict.terms b.pool v.root
-upload_staged b seat k r v o writes =
+pub upload_staged : (b : Books) (seat : Seat) (k : UploadKind) (r : ℕ) (v : GraphVersion) (o : ℕ) (since : Option ℕ) → seat ≡ Writing k r v o since → IsReadyAny b seat → IsStaged b.dict.terms b.pool v.root
+upload_staged b seat k r v o since writes =
     subst (λ x. IsReadyAny b x → IsStaged b.dict.terms b.pool v.root) (sym writes)
-    (λ (any : IsReadyAny b (Writing k r v o)). staged_here b any.number k r v o any.ready)
+    (λ (any : IsReadyAny b (Writing k r v o since)). staged_here b any.number k r v o since any.ready)
 
 -- the tree of an upload is all its own
-pub upload_draft : (b : Books) (k : UploadKind) (n : ℕ) (u : GraphVersion) (o : ℕ) → IsReadyAny b (Writing k n u o) → IsDraftAt b.pool u.root
-upload_draft b k n u o any =
-    let set = (upload_staged b (Writing k n u o) k n u o refl any).set in
+pub upload_draft : (b : Books) (k : UploadKind) (n : ℕ) (u : GraphVersion) (o : ℕ) (since : Option ℕ) → IsReadyAny b (Writing k n u o since) → IsDraftAt b.pool u.root
+upload_draft b k n u o since any =
+    let set = (upload_staged b (Writing k n u o since) k n u o since refl any).set in
     let l = any.ready.ledger in
     let tree = tree_at b.pool u.root in
     let here : IsTreeOf b.pool (b.versions.commit + 1) tree = All-head (IsTreeOf b.pool (b.versions.commit + 1)) tree l.uploads l.ledger.ledger.staged in
     record { root_is = set.root_is; stands = set.stands; descends = here.descends; apart = set.apart }
+
+-- no tree stands in any pool
+pub no_tree : (b : Books) (q : Nodes) → IsTreeOf q (b.versions.commit + 1) leaf
+no_tree b q = record { stands = tt; descends = tt; born = tt }
 
 -- what was taken back is a step to no tree from none
 pub restored_step : (birth : ℕ) (p q : Nodes) → Restores p q → Step 0 birth p q (λ x. 0) (λ x. 0)
@@ -103,3 +118,10 @@ module _ (b : Books) (d : Numbered) (q : Nodes) (birth : ℕ) (old new : Tree) (
         let after = nodes_counted q b.versions gs (new ∷ us₀) rs₀ (dead_at q) (moved us₀ rs₀ l₀).ledger in
         let waste : length (waste_at q) ≡ length (waste_at b.pool) = ap (λ (ls : List Lifetime). length ls) moved_waste in
         omega (arith, before.nodes, after.nodes, waste, sum_by-cons (λ (t : Tree). length (keys t)) old us₀, sum_by-cons (λ (t : Tree). length (keys t)) new us₀)
+
+-- no memory for a POST, and nothing was done
+pub post_unread : (b : Books) (q : Nodes) (s : ℕ) (t : Target) (n : ℕ) (u : GraphVersion) (o : ℕ) (since : Option ℕ) (now : Seat) (a : Answer) → late_write_of b t since ≡ None → q ≡ b.pool → now ≡ Writing (Post t) n u o since → a ≡ Refused NoMemory → IsReady b s (Writing (Post t) n u o since) → Acts b (with_nodes b b.dict q) s (Writing (Post t) n u o since) now Commit a
+post_unread b q s t n u o since now a early same writes why ready =
+    let here : Acts b b s (Writing (Post t) n u o since) (Writing (Post t) n u o since) Commit (Refused NoMemory) = nothing_done b s (Writing (Post t) n u o since) Commit (Refused NoMemory) (wants_in_time (totals_of b) (asked_since since (Posts t (graph_of_root b.dict.terms b.pool u.root))) (upload_in_time b t since early) refl) refl refl refl refl refl ready in
+    subst (λ x. Acts b (with_nodes b b.dict x) s (Writing (Post t) n u o since) now Commit a) (sym same)
+    (subst (λ x. Acts b b s (Writing (Post t) n u o since) x Commit a) (sym writes) (subst (λ x. Acts b b s (Writing (Post t) n u o since) (Writing (Post t) n u o since) Commit x) (sym why) here))

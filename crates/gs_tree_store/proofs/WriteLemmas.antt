@@ -1,5 +1,5 @@
 -- What a write makes of a seat and of its books.
-use Rattle.std.proofs.Common.{◌≡◌, ◌+◌, ◌*◌, ◌<◌, ◌≤◌, ℕ, true, false, cond, List, [], ◌∷◌, length, get_or, set, Option, None, is_some, count_by, refl, sym, ap, subst, ◌∙◌, arith, add-zero, true≢false}
+use Rattle.std.proofs.Common.{◌≡◌, ◌+◌, ◌*◌, ◌<◌, ◌≤◌, ℕ, Bool, true, false, not, nat_eq, List, [], ◌∷◌, length, get_or, set, Option, None, is_some, count_by, refl, sym, ap, subst, ◌∙◌, arith, true≢false}
 use Rattle.std.proofs.lemmas.List.{set-get_or}
 use Rattle.std.proofs.lemmas.List.Elements.{All-head}
 use Rattle.gs_model.specs.Graphs.{Graph, size_of}
@@ -9,29 +9,29 @@ use Rattle.gs_model.specs.declared.refusals.Refusal.TheVariants.{LastNumber}
 use Rattle.gs_term.specs.declared.names.Target.{Target}
 use Rattle.gs_event.specs.declared.events.UploadKind.{UploadKind}
 use Rattle.gs_event.specs.declared.events.UploadKind.TheVariants.{Put, Post, New}
-use Rattle.gs_event.specs.declared.events.Action.TheVariants.{Commit, Delete}
+use Rattle.gs_event.specs.declared.events.Action.TheVariants.{Commit}
 use Rattle.gs_event.specs.declared.answers.Answer.TheVariants.{Refused, Status}
-use Rattle.gs_event.specs.Datasets.{without_graph, is_there, size_at}
-use Rattle.gs_event.specs.Operations.{Operation, location_of, is_success}
+use Rattle.gs_event.specs.Datasets.{size_at}
+use Rattle.gs_event.specs.Operations.{after, location_of, is_success}
+use Rattle.gs_event.specs.Conditions.{Asked, asked_since, is_late, last_writes_after, with_write}
 use Rattle.gs_event.specs.Phases.{write_of}
 use Rattle.gs_event.specs.Phases as phase
-use Rattle.gs_event.specs.Views.{Totals, FitsWrite}
+use Rattle.gs_event.specs.Views.{Totals, state_of, FitsWrite}
 use Rattle.gs_event.specs.Waste.{Lifetime}
-use Rattle.gs_event.specs.Steps.{Joins, JoinsBoth, IsUnreached, EndsAt, most_for_new, UploadNodes, DeleteNodes}
+use Rattle.gs_event.specs.Wasting.{Joins, JoinsBoth, IsUnreached, EndsAt, most_for_new, UploadNodes, UploadRecords}
 use Rattle.gs_pool.specs.declared.nodes.Node.{Node}
 use Rattle.gs_pool.specs.Pool.{Nodes, in_use, aside_count}
 use Rattle.gs_tree.specs.Tree.{Tree, keys, tree_at}
 use Rattle.gs_keys.specs.Roots.{graph_of_root}
 use Rattle.gs_staging.proofs.KeyLemmas.{still_grows}
 use Rattle.gs_catalogue.specs.declared.versions.GraphVersion.{GraphVersion}
-use Rattle.gs_records.specs.Records.{Recorded}
 use Rattle.gs_ledger.specs.Marks.{dead_at, waste_at}
 use Rattle.gs_ledger.specs.Ledger.{IsLedger}
 use Rattle.gs_reclaim.specs.Reclaims.{CanRetireRoot}
 use Rattle.gs_datasets.specs.Standing.{all_versions, graph_trees, AreSameIn}
 use Rattle.gs_datasets.proofs.Outlasting.{keys_last}
 use Rattle.gs_datasets.proofs.Writing.{same_trees, versions_kept, dataset_kept}
-use Rattle.gs_commit.specs.Commits.{DropsUpload, DropsAll}
+use Rattle.gs_commit.specs.Commits.{DropsUpload}
 use Rattle.gs_commit.specs.Laws.{IsRetirable}
 use Rattle.gs_commit.proofs.RootLemmas.{ledger_retirable}
 use Rattle.gs_commit.proofs.LawLemmas.{leaf_upload}
@@ -39,10 +39,14 @@ use Rattle.gs_tree_store.specs.declared.books.Books.{Books}
 use Rattle.gs_tree_store.specs.declared.books.Seat.{Seat}
 use Rattle.gs_tree_store.specs.declared.books.Seat.TheVariants.{Idle, Writing}
 use Rattle.gs_tree_store.specs.Books.{graphs_of, books_setting, dataset_of, totals_of, upload_tree, IsSound, HasLedger, HasLedgerAt, IsReady}
-use Rattle.gs_tree_store.specs.Writes.{HasUpload, EndsOneVersion, Puts, Removes}
+use Rattle.gs_tree_store.specs.LastWrites.{last_writes_of}
+use Rattle.gs_tree_store.specs.Writes.{HasUpload, EndsOneVersion, Puts, GivesUpUpload}
 use Rattle.gs_tree_store.specs.Verdicts.{HasCounts}
+use Rattle.gs_tree_store.specs.Uses.{SameUnless}
 use Rattle.gs_tree_store.specs.Actions.{TakesNodes, Acts, IsReadyAny}
-use Rattle.gs_tree_store.proofs.AlikeLemmas.{SameNow, acts_alike}
+use Rattle.gs_tree_store.proofs.ConditionLemmas.{ComesTo, fits_so, totals_so, comes_done, comes_undone}
+use Rattle.gs_tree_store.proofs.SeatLemmas.{same_totals}
+use Rattle.gs_tree_store.proofs.AlikeLemmas.{gives_up_same, acts_alike}
 use Rattle.gs_tree_store.proofs.CommitLemmas.{roots_same}
 use Rattle.gs_tree_store.proofs.VerdictLemmas.{size_of_version, IsStored, IsNotStored}
 
@@ -51,12 +55,8 @@ abbrev pub upload_graph : Books → GraphVersion → Graph
 upload_graph b v = graph_of_root b.dict.terms b.pool v.root
 
 -- what the abstract store is asked by its commit
-abbrev pub asked_by : Books → UploadKind → ℕ → GraphVersion → Operation
-asked_by b k r v = write_of k r (upload_graph b v)
-
--- what the abstract store says of the name of a new graph
-abbrev pub name_by : Books → Operation → Option (List ℕ)
-name_by b q = location_of (books_setting b) (dataset_of b) q
+abbrev pub asked_by : Books → UploadKind → ℕ → GraphVersion → Option ℕ → Asked
+asked_by b k r v since = asked_since since (write_of k r (upload_graph b v))
 
 -- books that are ready have the counts that a verdict asks for
 pub has_counts : (b : Books) (seat : Seat) → IsReadyAny b seat → HasCounts b
@@ -65,8 +65,8 @@ has_counts b seat any =
     record { sound = any.ready.sound; ledger = record { uploads = upload_tree b.pool seat ∷ l.uploads; reads = l.reads; ledger = l.ledger.ledger } }
 
 -- and the upload of a seat that writes
-pub has_upload : (b : Books) (k : UploadKind) (r : ℕ) (v : GraphVersion) (o : ℕ) → IsReadyAny b (Writing k r v o) → HasUpload b v
-has_upload b k r v o any =
+pub has_upload : (b : Books) (k : UploadKind) (r : ℕ) (v : GraphVersion) (o : ℕ) (since : Option ℕ) → IsReadyAny b (Writing k r v o since) → HasUpload b v
+has_upload b k r v o since any =
     let l = any.ready.ledger in
     record { version = any.ready.known; uploads = l.uploads; reads = l.reads; ledger = l.ledger.ledger }
 
@@ -96,29 +96,33 @@ idle_ledger b s us rs there none l =
 pub same_use : (p q : Nodes) → q.nodes ≡ p.nodes → in_use q ≡ in_use p
 same_use p q nodes = ap (λ (ns : List (Option Node)). count_by is_some ns) nodes
 
-refused_takes : (k : UploadKind) (r : ℕ) (g : Graph) (e : Refusal) (n : ℕ) → TakesNodes (phase.Writing k r g) Commit (Refused e) n n
-refused_takes (Put t) r g e n = refl
-refused_takes (Post t) r g e n = refl
-refused_takes New r g e n = refl
+refused_takes : (k : UploadKind) (r : ℕ) (g : Graph) (since : Option ℕ) (e : Refusal) (n : ℕ) → TakesNodes (phase.Writing k r g since) Commit (Refused e) n n
+refused_takes (Put t) r g since e n = refl
+refused_takes (Post t) r g since e n = refl
+refused_takes New r g since e n = refl
 
-commit_takes : (k : UploadKind) (r : ℕ) (g : Graph) (status : ℕ) (name : Option (List ℕ)) (m n : ℕ) → n ≡ m → TakesNodes (phase.Writing k r g) Commit (Status status name) m n
-commit_takes (Put t) r g status name m n same = same
-commit_takes (Post t) r g status name m n same = tt
-commit_takes New r g status name m n same = same
+same_unless : (done : Bool) (m n : ℕ) → n ≡ m → SameUnless done m n
+same_unless true m n same = tt
+same_unless false m n same = same
+
+commit_takes : (k : UploadKind) (r : ℕ) (g : Graph) (since : Option ℕ) (status : ℕ) (name : Option (List ℕ)) (number m n : ℕ) → n ≡ m → TakesNodes (phase.Writing k r g since) Commit (Status status name number) m n
+commit_takes (Put t) r g since status name number m n same = same
+commit_takes (Post t) r g since status name number m n same = same_unless (not (nat_eq status 412)) m n same
+commit_takes New r g since status name number m n same = same
 
 -- a commit that finds no number left: nothing changes
-pub commit_refused : (b : Books) (s : ℕ) (k : UploadKind) (r : ℕ) (v : GraphVersion) (o : ℕ) → FitsWrite (totals_of b) (asked_by b k r v) (Refused LastNumber) → IsReady b s (Writing k r v o) → Acts b b s (Writing k r v o) (Writing k r v o) Commit (Refused LastNumber)
-commit_refused b s k r v o fits ready = record {
+pub commit_refused : (b : Books) (s : ℕ) (k : UploadKind) (r : ℕ) (v : GraphVersion) (o : ℕ) (since : Option ℕ) → FitsWrite (totals_of b) (asked_by b k r v since) (Refused LastNumber) → IsReady b s (Writing k r v o since) → Acts b b s (Writing k r v o since) (Writing k r v o since) Commit (Refused LastNumber)
+commit_refused b s k r v o since fits ready = record {
   fits = fits;
-  totals = λ i. record { setting = books_setting b; dataset = dataset_of b; request = sym (add-zero b.request) i; commit = sym (add-zero b.versions.commit) i };
+  totals = same_totals b b refl refl refl refl refl;
   seat = refl;
   pins = sym (set-get_or b.versions.seats s None);
   sound = ready.sound;
   known = ready.known;
   version = tt;
   grows = still_grows b.dict b.dict refl;
-  ledgers = λ us rs l. record { ledger = subst (HasLedgerAt b s (Writing k r v o) us) (sym (set_there rs s [] [] l.read)) l; waste = refl };
-  takes = refused_takes k r (upload_graph b v) LastNumber (in_use b.pool);
+  ledgers = λ us rs l. record { ledger = subst (HasLedgerAt b s (Writing k r v o since) us) (sym (set_there rs s [] [] l.read)) l; waste = refl };
+  takes = refused_takes k r (upload_graph b v) since LastNumber (in_use b.pool);
 }
 
 -- nodes that stay are the same trees
@@ -138,6 +142,7 @@ module _ (b : Books) (q : Nodes) (sound : IsSound b) (same : AreSameIn b.pool q 
     latest = sound.latest;
     numbers = sound.numbers;
     base = sound.base;
+    written = sound.written;
   }
 
   graphs_same : (us : List Tree) (rs : List (List Tree)) → IsLedger q b.versions (graph_trees b.pool (graphs_of b)) us rs (dead_at q) → HasLedger (record b { pool = q }) us rs
@@ -148,19 +153,30 @@ failed_wastes v (Put t) g old new j = j
 failed_wastes v (Post t) g old new j = j
 failed_wastes v New g old new j = j
 
--- a commit without effect: the upload is dropped
-pub commit_failed : (b : Books) (q : Nodes) (x : Recorded) (s : ℕ) (k : UploadKind) (r : ℕ) (v : GraphVersion) (o : ℕ) → SameNow b.records x → AreSameIn b.pool q (all_versions (graphs_of b)) → aside_count q ≡ 0 → DropsAll b.pool q v.root
-    → in_use q ≡ in_use b.pool → IsNotStored (books_setting b) (dataset_of b) (asked_by b k r v) → None ≡ name_by b (asked_by b k r v)
-    → IsReady b s (Writing k r v o) → Acts b (record b { pool = q; records = x }) s (Writing k r v o) Idle Commit (Status 507 None)
-commit_failed b q x s k r v o now same none drops used not name ready =
+pub failed_records : (v : Totals) (k : UploadKind) (g : Graph) (old new : List Lifetime) → Joins IsUnreached 1 old new → UploadRecords v k g false old new
+failed_records v (Put t) g old new j = j
+failed_records v (Post t) g old new j = j
+failed_records v New g old new j = j
+
+-- a commit without effect: the upload was dropped, and its record given up
+pub commit_failed : (b new : Books) (s : ℕ) (k : UploadKind) (r : ℕ) (v : GraphVersion) (o : ℕ) (since : Option ℕ) (status number : ℕ) → GivesUpUpload b new o v
+    → ComesTo (totals_of b) (asked_by b k r v since) status None number (state_of (totals_of b)) → is_success status ≡ false
+    → IsReady b s (Writing k r v o since) → Acts b new s (Writing k r v o since) Idle Commit (Status status None number)
+commit_failed b new s k r v o since status number drops comes fails ready =
+    let q = new.pool in
     let g = upload_graph b v in
     let gs = graph_trees b.pool (graphs_of b) in
+    let same = versions_same b q drops.nodes in
+    let none = drops.aside ∙ ready.sound.none_aside in
     let dataset = same_dataset b q ready.sound same in
+    let dropped : Books = record b { pool = q } in
+    let state : state_of (totals_of dropped) ≡ state_of (totals_of b) = λ i. record { dataset = dataset i; commit = b.versions.commit; last_writes = last_writes_of b } in
     let size : length (keys (tree_at b.pool v.root)) ≡ size_of g = sym ready.known.counted ∙ size_of_version b.dict.terms b.pool v ready.known in
-    acts_alike (record b { pool = q }) x now b s (Writing k r v o) Commit (Status 507 None)
+    subst (λ x. Acts b x s (Writing k r v o since) Idle Commit (Status status None number)) (sym drops.is)
+    (acts_alike dropped new.records (gives_up_same b.records new.records o drops.gives) b s (Writing k r v o since) Commit (Status status None number)
     (record {
-      fits = (not.status_is, name, λ e. absurd (true≢false (sym e)));
-      totals = λ i. record { setting = books_setting b; dataset = (dataset ∙ sym not.dataset) i; request = sym (add-zero b.request) i; commit = sym (add-zero b.versions.commit) i };
+      fits = fits_so (totals_of b) (asked_by b k r v since) status None number (state_of (totals_of b)) comes (λ well. absurd (true≢false (sym well ∙ fails)));
+      totals = totals_so b dropped (asked_by b k r v since) (state_of (totals_of b)) comes.state_is refl refl state;
       seat = refl;
       pins = sym (set-get_or b.versions.seats s None);
       sound = still_sound b q ready.sound same none;
@@ -168,28 +184,44 @@ commit_failed b q x s k r v o now same none drops used not name ready =
       version = tt;
       grows = still_grows b.dict b.dict refl;
       ledgers = λ us rs l.
-          let d : DropsUpload b.versions b.pool q (tree_at b.pool v.root) gs us rs = drops b.versions gs us rs l.ledger in
+          let d : DropsUpload b.versions b.pool q (tree_at b.pool v.root) gs us rs = drops.ledgers b.versions gs us rs l.ledger in
           record {
-            ledger = idle_ledger (record b { pool = q }) s us rs l.there l.read (graphs_same b q ready.sound same us rs d.ledger);
-            waste = failed_wastes (totals_of b) k g (waste_at b.pool) (waste_at q) (subst (λ n. Joins IsUnreached n (waste_at b.pool) (waste_at q)) size d.waste);
+            ledger = idle_ledger dropped s us rs l.there l.read (graphs_same b q ready.sound same us rs d.ledger);
+            waste = subst (λ x. UploadNodes (totals_of b) k g x (waste_at b.pool) (waste_at q)) (sym fails)
+                (failed_wastes (totals_of b) k g (waste_at b.pool) (waste_at q) (subst (λ n. Joins IsUnreached n (waste_at b.pool) (waste_at q)) size d.waste));
           };
-      takes = commit_takes k r g 507 None (in_use b.pool) (in_use q) used;
-    })
+      takes = commit_takes k r g since status None number (in_use b.pool) (in_use q) (same_use b.pool q drops.nodes);
+    }))
+
+-- so it was where it was beyond the limits, or came too late
+pub upload_full : (b new : Books) (s : ℕ) (k : UploadKind) (r : ℕ) (v : GraphVersion) (o : ℕ) (since : Option ℕ) (number : ℕ) → GivesUpUpload b new o v → is_late (state_of (totals_of b)) since (write_of k r (upload_graph b v)) ≡ false
+    → IsNotStored (books_setting b) (dataset_of b) (write_of k r (upload_graph b v)) → None ≡ location_of (books_setting b) (dataset_of b) (write_of k r (upload_graph b v)) → number ≡ new.versions.commit
+    → IsReady b s (Writing k r v o since) → Acts b new s (Writing k r v o since) Idle Commit (Status 507 None number)
+upload_full b new s k r v o since number drops in_time not name is ready =
+    let last : number ≡ b.versions.commit = is ∙ ap (λ (x : Books). x.versions.commit) drops.is in
+    subst (λ n. Acts b new s (Writing k r v o since) Idle Commit (Status 507 None n)) (sym last)
+    (commit_failed b new s k r v o since 507 b.versions.commit drops (comes_undone (totals_of b) (asked_by b k r v since) in_time 507 None not.status_is refl name not.dataset) refl ready)
 
 -- a commit with effect: the target has the upload's graph
-pub commit_stored : (old new : Books) (s : ℕ) (k : UploadKind) (r : ℕ) (v : GraphVersion) (o : ℕ) (t : Target) (status : ℕ) (name : Option (List ℕ)) → Puts old new o t v → old.versions.commit < last_number
-    → IsStored (books_setting old) (dataset_of old) (asked_by old k r v) t (upload_graph old v) status → name ≡ name_by old (asked_by old k r v)
+pub commit_stored : (old new : Books) (s : ℕ) (k : UploadKind) (r : ℕ) (v : GraphVersion) (o : ℕ) (since : Option ℕ) (t : Target) (status : ℕ) (name : Option (List ℕ)) (number : ℕ) → Puts old new o t v → old.versions.commit < last_number
+    → is_late (state_of (totals_of old)) since (write_of k r (upload_graph old v)) ≡ false
+    → IsStored (books_setting old) (dataset_of old) (write_of k r (upload_graph old v)) t (upload_graph old v) status → name ≡ location_of (books_setting old) (dataset_of old) (write_of k r (upload_graph old v)) → number ≡ new.versions.commit
+    → last_writes_after (books_setting old) (dataset_of old) (last_writes_of old) (old.versions.commit + 1) (write_of k r (upload_graph old v)) ≡ with_write (last_writes_of old) (old.versions.commit + 1) t
     → ((a b : List Lifetime) → Joins (EndsAt (old.versions.commit + 1)) (size_at (dataset_of old) t) a b → UploadNodes (totals_of old) k (upload_graph old v) true a b)
-    → IsReady old s (Writing k r v o) → Acts old new s (Writing k r v o) Idle Commit (Status status name)
-commit_stored old new s k r v o t status name puts number stored reported wastes ready =
+    → IsReady old s (Writing k r v o since) → Acts old new s (Writing k r v o since) Idle Commit (Status status name number)
+commit_stored old new s k r v o since t status name number puts left in_time stored reported is writes wastes ready =
     let g = upload_graph old v in
+    let q = asked_by old k r v since in
     let kept = puts.kept in
+    let comes = comes_done (totals_of old) q in_time status name stored.status_is stored.well reported in
     let dataset = puts.dataset ∙ sym stored.dataset in
-    let request : new.request ≡ old.request + 0 = kept.request ∙ sym (add-zero old.request) in
-    let commit : new.versions.commit ≡ old.versions.commit + cond (is_success status) 1 0 = kept.commit ∙ sym (ap (λ b. old.versions.commit + cond b 1 0) stored.well) in
-    record {
-      fits = (stored.status_is, reported, λ e. number);
-      totals = λ i. record { setting = record { base = kept.base i; limits = kept.limits i }; dataset = dataset i; request = request i; commit = commit i };
+    let last_writes = puts.last_writes ∙ sym writes in
+    let state : state_of (totals_of new) ≡ record { dataset = after (books_setting old) (dataset_of old) q.operation; commit = old.versions.commit + 1; last_writes = last_writes_after (books_setting old) (dataset_of old) (last_writes_of old) (old.versions.commit + 1) q.operation } =
+    λ i. record { dataset = dataset i; commit = kept.commit i; last_writes = last_writes i } in
+    subst (λ n. Acts old new s (Writing k r v o since) Idle Commit (Status status name n)) (sym (is ∙ kept.commit))
+    (record {
+      fits = fits_so (totals_of old) q status name (old.versions.commit + 1) _ comes (λ well. left);
+      totals = totals_so old new q _ comes.state_is (λ i. record { base = kept.base i; limits = kept.limits i }) kept.request state;
       seat = refl;
       pins = kept.pins ∙ sym (set-get_or old.versions.seats s None);
       sound = puts.sound;
@@ -202,40 +234,13 @@ commit_stored old new s k r v o t status name puts number stored reported wastes
             ledger = idle_ledger new s us rs l.there l.read e.ledger;
             waste = subst (λ b. UploadNodes (totals_of old) k g b (waste_at old.pool) (waste_at new.pool)) (sym stored.well) (wastes (waste_at old.pool) (waste_at new.pool) e.waste);
           };
-      takes = commit_takes k r g status name (in_use old.pool) (in_use new.pool) (same_use old.pool new.pool kept.nodes);
-    }
+      takes = commit_takes k r g since status name (old.versions.commit + 1) (in_use old.pool) (in_use new.pool) (same_use old.pool new.pool kept.nodes);
+    })
 
 -- where an upload leaves no waste, that is what was replaced
-pub taken_over : (last size most : ℕ) (a b : List Lifetime) → most ≤ most_for_new * size → Joins (EndsAt (last + 1)) most a b → JoinsBoth last size (most_for_new * size) a b
+pub taken_over : (last size most : ℕ) (a b : List Lifetime) → most ≤ most_for_new * size → Joins (EndsAt (last + 1)) most a b → JoinsBoth (EndsAt (last + 1)) size (most_for_new * size) a b
 taken_over last size most a b few j = record {
   between = a;
   unused = record { more = []; few = omega arith; same = λ f. omega arith; ended = λ k d lt. absurd (omega arith) };
   replaced = record { more = j.more; few = omega (arith, j.few, few); same = j.same; ended = j.ended };
 }
-
--- a Delete with effect
-pub deleted : (old new : Books) (s : ℕ) (t : Target) (status : ℕ) → Removes old new t → is_there (dataset_of old) t ≡ true → status ≡ 204 → old.versions.commit < last_number → IsReady old s Idle → Acts old new s Idle Idle (Delete t) (Status status None)
-deleted old new s t status removes there is number ready =
-    let m = dataset_of old in
-    let kept = removes.kept in
-    let well : is_success status ≡ true = ap is_success is in
-    let dataset = removes.dataset ∙ sym (ap (λ x. cond x (without_graph m t) m) there) in
-    let request : new.request ≡ old.request + 0 = kept.request ∙ sym (add-zero old.request) in
-    let commit : new.versions.commit ≡ old.versions.commit + cond (is_success status) 1 0 = kept.commit ∙ sym (ap (λ b. old.versions.commit + cond b 1 0) well) in
-    record {
-      fits = (is ∙ sym (ap (λ x. cond x 204 404) there), refl, λ e. number);
-      totals = λ i. record { setting = record { base = kept.base i; limits = kept.limits i }; dataset = dataset i; request = request i; commit = commit i };
-      seat = refl;
-      pins = kept.pins ∙ sym (set-get_or old.versions.seats s None);
-      sound = removes.sound;
-      known = tt;
-      version = tt;
-      grows = still_grows old.dict new.dict kept.dict;
-      ledgers = λ us rs l.
-          let e : EndsOneVersion old new (size_at m t) us rs = removes.ledgers us rs ((leaf_upload old.pool old.versions (graph_trees old.pool (graphs_of old)) us rs (dead_at old.pool)).1 l.ledger) in
-          record {
-            ledger = idle_ledger new s us rs l.there l.read e.ledger;
-            waste = subst (λ b. DeleteNodes (totals_of old) t b (waste_at old.pool) (waste_at new.pool)) (sym well) e.waste;
-          };
-      takes = same_use old.pool new.pool kept.nodes;
-    }

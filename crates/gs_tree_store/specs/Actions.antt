@@ -1,44 +1,32 @@
--- What an action makes of the books and of its seat. Of this module public clauses cite `SeatUses` alone, by `UsesNodes`.
-use Rattle.std.specs.Prelude.{◌≡◌, ℕ, ◌+◌, Bool, true, false, List, None, slice_index_or}
+-- What an action makes of the books and of its seat. No public clause cites this module.
+use Rattle.std.specs.Prelude.{◌≡◌, ℕ, ◌+◌, not, nat_eq, List, None, slice_index_or}
 use Rattle.std.specs.List.{slice_set}
 use Rattle.gs_model.specs.Graphs.{size_of, with_triples}
 use Rattle.gs_event.specs.declared.events.Action.{Action}
-use Rattle.gs_event.specs.declared.events.Action.TheVariants.{Open, OpenPatch, Stage, Commit, CommitPatch}
+use Rattle.gs_event.specs.declared.events.Action.TheVariants.{Stage, Commit, CommitPatch}
 use Rattle.gs_event.specs.declared.events.UploadKind.TheVariants.{Post}
 use Rattle.gs_event.specs.declared.answers.Answer.{Answer}
-use Rattle.gs_event.specs.declared.answers.Answer.TheVariants.{Opened, Staged, Status}
+use Rattle.gs_event.specs.declared.answers.Answer.TheVariants.{Staged, Status}
 use Rattle.gs_event.specs.Operations.{is_success}
 use Rattle.gs_event.specs.Phases.{Writing}
 use Rattle.gs_event.specs.Views.{SeatView, FitsSeat, next_totals, next_phase}
-use Rattle.gs_event.specs.Steps.{pin_after, WastesNodes}
+use Rattle.gs_event.specs.Wasting.{WastesNodes}
+use Rattle.gs_event.specs.Steps.{pin_after}
 use Rattle.gs_pool.specs.Pool.{in_use}
 use Rattle.gs_tree.specs.Tree.{Tree}
 use Rattle.gs_staging.specs.Keys.{Grows}
 use Rattle.gs_ledger.specs.Marks.{waste_at}
 use Rattle.gs_tree_store.specs.declared.books.Books.{Books}
 use Rattle.gs_tree_store.specs.declared.books.Seat.{Seat}
+use Rattle.gs_tree_store.specs.Uses.{SameUnless}
 use Rattle.gs_tree_store.specs.Books.{totals_of, seat_view_by, read_trees, IsSeat, HasItsVersion, IsSound, IsReady, HasLedgerAt}
 
--- as many, unless it took effect
-abbrev pub SameUnless : Bool → ℕ → ℕ → Type 0
-SameUnless true old new = Unit {0}
-SameUnless false old new = new ≡ old
-
--- What a seat's action that was answered so makes of the number of nodes and records in use: an Open raises it by one, and a Stage by the
--- triples that are new to its upload. What a POST takes, and a PATCH that took effect, is said of every step, and nothing else changes it.
-abbrev pub SeatUses : SeatView → Action → Answer → ℕ → ℕ → Type 0
-SeatUses p (Open k) (Opened r) old new = new ≡ old + 1
-SeatUses p (OpenPatch t) (Opened r) old new = new ≡ old + 1
-SeatUses (Writing k r g) (Stage ts) Staged old new = new + size_of g ≡ old + size_of (with_triples g ts.items)
-SeatUses (Writing (Post t) r g) Commit (Status status name) old new = Unit {0}
-SeatUses p (CommitPatch ops) (Status status name) old new = SameUnless (is_success status) old new
-SeatUses p action a old new = new ≡ old
-
--- what it makes of the number of nodes in use: the same, but that an Open takes no node
+-- What a seat's action that was answered so makes of the number of nodes in use: what it makes of that of nodes and records, but that an
+-- Open takes no node.
 abbrev pub TakesNodes : SeatView → Action → Answer → ℕ → ℕ → Type 0
-TakesNodes (Writing k r g) (Stage ts) Staged old new = new + size_of g ≡ old + size_of (with_triples g ts.items)
-TakesNodes (Writing (Post t) r g) Commit (Status status name) old new = Unit {0}
-TakesNodes p (CommitPatch ops) (Status status name) old new = SameUnless (is_success status) old new
+TakesNodes (Writing k r g since) (Stage ts) Staged old new = new + size_of g ≡ old + size_of (with_triples g ts.items)
+TakesNodes (Writing (Post t) r g since) Commit (Status status name number) old new = SameUnless (not (nat_eq status 412)) old new
+TakesNodes p (CommitPatch ops) (Status status name number) old new = SameUnless (is_success status) old new
 TakesNodes p action a old new = new ≡ old
 
 -- where there was a ledger with the trees of the other seats, there is one still, and the waste of nodes is what the action makes of it

@@ -25,6 +25,7 @@ use Rattle.gs_datasets.specs.Standing.{dataset_at, all_versions, graph_trees, Is
 use Rattle.gs_tree_store.specs.declared.books.Books.{Books}
 use Rattle.gs_tree_store.specs.declared.books.Seat.{Seat}
 use Rattle.gs_tree_store.specs.declared.books.Seat.TheVariants.{Idle, Writing, Patching, Reading, ReadingAll}
+use Rattle.gs_tree_store.specs.LastWrites.{last_writes_of, WasWritten}
 
 -- the base and the limits of the books
 abbrev pub books_setting : Books → Setting
@@ -42,21 +43,22 @@ dataset_of b = dataset_at b.dict.terms b.pool (graphs_of b)
 abbrev pub IsFound : Books → Target → Option GraphVersion → Type 0
 IsFound b t found = found ≡ version_at (graphs_of b) t
 
--- the setting, the dataset and the numbers given out
+-- the setting, the dataset, the numbers given out and those of the last writes
 abbrev pub totals_of : Books → Totals
 totals_of b = record {
   setting = books_setting b;
   dataset = dataset_of b;
   request = b.request;
   commit = b.versions.commit;
+  last_writes = last_writes_of b;
 }
 
 -- a seat as it is seen: an upload is the graph of its tree, and a read the lines of its tree, or of all graphs of its version, after the
 -- last that was given
 abbrev pub seat_shown : List Term → Nodes → Recorded → Seat → SeatView
 seat_shown terms p rs Idle = phase.Idle
-seat_shown terms p rs (Writing k r v n) = phase.Writing k r (graph_of_root terms p v.root)
-seat_shown terms p rs (Patching t r n) = phase.Patching t r
+seat_shown terms p rs (Writing k r v n since) = phase.Writing k r (graph_of_root terms p v.root) since
+seat_shown terms p rs (Patching t r n since) = phase.Patching t r since
 seat_shown terms p rs (Reading root last) = phase.Reading (lines_from terms p root last)
 seat_shown terms p rs (ReadingAll v last) = phase.Reading (quads_left terms p v rs last)
 
@@ -66,7 +68,7 @@ seat_view_by b s = seat_shown b.dict.terms b.pool b.records s
 
 -- the tree of the seat's upload, a leaf where it has none
 abbrev pub upload_tree : Nodes → Seat → Tree
-upload_tree p (Writing k r v n) = tree_at p v.root
+upload_tree p (Writing k r v n since) = tree_at p v.root
 upload_tree p s = leaf
 
 -- the trees of the graphs of version v of the dataset
@@ -98,7 +100,7 @@ pub record IsReadOfAll (terms : List Term) (p : Nodes) (rs : Recorded) (v : ℕ)
 
 -- what is true of a seat: its upload is the version of a graph, and its read one of such a tree, or of all graphs of a version
 abbrev pub IsSeat : List Term → Nodes → Recorded → Seat → Type 0
-IsSeat terms p rs (Writing k r v n) = IsVersion terms p v
+IsSeat terms p rs (Writing k r v n since) = IsVersion terms p v
 IsSeat terms p rs (Reading root last) = IsReadFrom terms p root last
 IsSeat terms p rs (ReadingAll v last) = IsReadOfAll terms p rs v last
 IsSeat terms p rs s = Unit {0}
@@ -108,7 +110,8 @@ abbrev pub HasItsVersion : Option ℕ → Seat → Type 0
 HasItsVersion pin (ReadingAll v last) = pin ≡ Some v
 HasItsVersion pin s = Unit {0}
 
--- what is true of the books alone: there may be as many records as there are numbers of nodes
+-- What is true of the books alone: there may be as many records as there are numbers of nodes, and the commit that made the record of the
+-- default graph is the last write on it.
 pub record IsSound (b : Books) : Type 0 where
   pub versions : All (IsVersion b.dict.terms b.pool) (all_versions (graphs_of b))
   pub none_aside : aside_count b.pool ≡ 0
@@ -116,6 +119,7 @@ pub record IsSound (b : Books) : Type 0 where
   pub latest : b.records.latest ≡ b.versions.commit
   pub numbers : b.records.limit ≡ last_node + 1
   pub base : is_base (string_bytes b.base) ≡ true
+  pub written : WasWritten b.records b.default_write
 
 -- the ledger of the books, with these trees of uploads and of reads
 abbrev pub HasLedger : Books → List Tree → List (List Tree) → Type 0

@@ -1,11 +1,12 @@
--- Read in this order: what books and seats show, which records the seats have open, what a write makes of the books, what an action makes
--- of them and of a seat, how many nodes and records that takes, and what is true of every store.
+-- Read in this order: the numbers of last writes, what books and seats show, which records the seats have open, what a write makes of the books, how many nodes and
+-- records an event takes, what an action makes of the books and of a seat, and what is true of every store.
+pub mod LastWrites
 pub mod Books
 pub mod Opened
 pub mod Writes
 pub mod Verdicts
 pub mod Drafts
 pub mod Uploads
-pub mod Actions
 pub mod Uses
+pub mod Actions
 pub mod Kept

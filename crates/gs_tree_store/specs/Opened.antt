@@ -5,7 +5,7 @@ use Rattle.gs_event.specs.declared.events.Action.{Action}
 use Rattle.gs_event.specs.declared.events.Action.TheVariants.{Open, OpenPatch}
 use Rattle.gs_event.specs.declared.answers.Answer.{Answer}
 use Rattle.gs_event.specs.declared.answers.Answer.TheVariants.{Opened}
-use Rattle.gs_event.specs.Steps.{WastesRecords}
+use Rattle.gs_event.specs.Wasting.{WastesRecords}
 use Rattle.gs_records.specs.Records.{opened, record_at}
 use Rattle.gs_records.specs.Waste.{waste_in, open_count, used_count}
 use Rattle.gs_quads.specs.Laws.{HasSame}
@@ -16,14 +16,14 @@ use Rattle.gs_tree_store.specs.Books.{totals_of, seat_view_by}
 
 -- the number of the record that a seat has open
 abbrev pub own_record : Seat → Option ℕ
-own_record (Writing k r v n) = Some n
-own_record (Patching t r n) = Some n
+own_record (Writing k r v n since) = Some n
+own_record (Patching t r n since) = Some n
 own_record s = None
 
 -- 1 for a seat that has a record open
 abbrev pub own_count : Seat → ℕ
-own_count (Writing k r v n) = 1
-own_count (Patching t r n) = 1
+own_count (Writing k r v n since) = 1
+own_count (Patching t r n since) = 1
 own_count s = 0
 
 -- whether the record of this number is open
@@ -51,8 +51,8 @@ pub record IsOther (b : Books) (s : Seat) (n : ℕ) : Type 0 where
 
 -- how many records are in use after an action that was answered so: one more after an Open
 abbrev pub TakesRecords : Action → Answer → ℕ → ℕ → Type 0
-TakesRecords (Open k) (Opened r) old new = new ≡ old + 1
-TakesRecords (OpenPatch t) (Opened r) old new = new ≡ old + 1
+TakesRecords (Open k since) (Opened r) old new = new ≡ old + 1
+TakesRecords (OpenPatch t since) (Opened r) old new = new ≡ old + 1
 TakesRecords action a old new = new ≡ old
 
 -- The seat's record is open, if it was, and beside it is open what was open beside that of the seat before. As many are open as the seat

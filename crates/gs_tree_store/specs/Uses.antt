@@ -1,14 +1,35 @@
 -- How many nodes and records an event that was answered so takes into use, where that is told exactly.
-use Rattle.std.specs.Prelude.{◌≡◌, ◌+◌, Option, Some}
+use Rattle.std.specs.Prelude.{◌≡◌, ℕ, ◌+◌, Bool, true, false, not, nat_eq, Option, Some}
 use Rattle.std.specs.List.{slice_get}
+use Rattle.gs_model.specs.Graphs.{size_of, with_triples}
+use Rattle.gs_event.specs.declared.events.UploadKind.TheVariants.{Post}
+use Rattle.gs_event.specs.declared.events.Action.{Action}
+use Rattle.gs_event.specs.declared.events.Action.TheVariants.{Open, OpenPatch, Stage, Commit, CommitPatch}
 use Rattle.gs_event.specs.declared.events.Event.{Event}
 use Rattle.gs_event.specs.declared.events.Event.TheVariants.{Seat as At, Reclaim}
 use Rattle.gs_event.specs.declared.answers.Answer.{Answer}
-use Rattle.gs_event.specs.declared.answers.Answer.TheVariants.{Reclaimed}
+use Rattle.gs_event.specs.declared.answers.Answer.TheVariants.{Opened, Staged, Status, Reclaimed}
+use Rattle.gs_event.specs.Operations.{is_success}
+use Rattle.gs_event.specs.Phases.{Writing}
 use Rattle.gs_event.specs.Views.{SeatView}
 use Rattle.gs_event.specs.Waste.{Shown, nodes_in}
 use Rattle.gs_event.specs.Steps.{Steps}
-use Rattle.gs_tree_store.specs.Actions.{SeatUses}
+
+-- as many, unless this is so
+abbrev pub SameUnless : Bool → ℕ → ℕ → Type 0
+SameUnless true old new = Unit {0}
+SameUnless false old new = new ≡ old
+
+-- What a seat's action that was answered so makes of the number of nodes and records in use: an Open raises it by one, and a Stage by the
+-- triples that are new to its upload. What a POST takes that did not come too late, and a PATCH that took effect, is said of every step, and
+-- nothing else changes it.
+abbrev pub SeatUses : SeatView → Action → Answer → ℕ → ℕ → Type 0
+SeatUses p (Open k since) (Opened r) old new = new ≡ old + 1
+SeatUses p (OpenPatch t since) (Opened r) old new = new ≡ old + 1
+SeatUses (Writing k r g since) (Stage ts) Staged old new = new + size_of g ≡ old + size_of (with_triples g ts.items)
+SeatUses (Writing (Post t) r g since) Commit (Status status name number) old new = SameUnless (not (nat_eq status 412)) old new
+SeatUses p (CommitPatch ops) (Status status name number) old new = SameUnless (is_success status) old new
+SeatUses p action a old new = new ≡ old
 
 -- of a seat that there is what its action uses, and none where there is no such seat
 abbrev pub UsesAt : Option SeatView → Event → Answer → Shown → Shown → Type 0

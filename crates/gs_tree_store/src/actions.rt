@@ -5,9 +5,9 @@ ghost use Rattle.gs_tree_store.specs.Opened.{HasRecord, KeepsRecords};
 ghost use Rattle.gs_tree_store.specs.Actions.{Acts, ActsAny, IsReadyAny};
 
 use crate::books::{Books, Seat};
+use crate::commits::drop_upload;
 use crate::{patches, reads, writes};
 use gs_catalogue::GraphVersion;
-use gs_commit::drop_tree;
 use gs_event::{Action, Answer, UploadKind};
 use gs_model::{LAST_NUMBER, Refusal};
 use gs_term::Triple;
@@ -27,12 +27,12 @@ pub fn act(
     ensures records { KeepsRecords books.old books.new seat.old seat.new action.now result }
 {
     match action {
-        Action::Open(kind) => open(books, seat, kind),
-        Action::OpenPatch(target) => patches::open(books, seat, target),
+        Action::Open(kind, since) => open(books, seat, kind, *since),
+        Action::OpenPatch(target, since) => patches::open(books, seat, target, *since),
         Action::Stage(triples) => stage(books, seat, alloc, triples),
         Action::Commit => writes::commit(books, seat, alloc),
         Action::CommitPatch(operations) => patches::commit(books, seat, alloc, operations),
-        Action::Delete(target) => writes::delete(books, seat, target),
+        Action::Delete(target, since) => writes::delete(books, seat, target, *since),
         Action::Head(scope) => reads::head(books, seat, scope),
         Action::Pin(scope) => reads::pin(books, seat, number, scope),
         Action::Piece(count) => reads::piece(books, seat, number, alloc, *count),
@@ -41,10 +41,10 @@ pub fn act(
 }
 
 /// Opens the upload's record too, so that a commit takes no memory for it.
-fn open(books: &mut Books, seat: &mut Seat, kind: &UploadKind) -> Answer
+fn open(books: &mut Books, seat: &mut Seat, kind: &UploadKind, since: Option<u64>) -> Answer
     requires { IsReadyAny books.old seat.old }
-    ensures acts { ActsAny books.old books.new seat.old seat.new (Action.Open kind.now) result }
-    ensures records { KeepsRecords books.old books.new seat.old seat.new (Action.Open kind.now) result }
+    ensures acts { ActsAny books.old books.new seat.old seat.new (Action.Open kind.now since) result }
+    ensures records { KeepsRecords books.old books.new seat.old seat.new (Action.Open kind.now since) result }
 {
     let Seat::Idle = seat else {
         return Answer::Refused(Refusal::WrongPhase);
@@ -59,7 +59,7 @@ fn open(books: &mut Books, seat: &mut Seat, kind: &UploadKind) -> Answer
         return Answer::Refused(Refusal::NoMemory);
     };
     books.request += 1;
-    *seat = Seat::Writing(kept, books.request, GraphVersion::empty(), opened);
+    *seat = Seat::Writing(kept, books.request, GraphVersion::empty(), opened, since);
     Answer::Opened(books.request)
 }
 
@@ -69,7 +69,7 @@ fn stage(books: &mut Books, seat: &mut Seat, alloc: Global, triples: &Vec<Triple
     ensures acts { ActsAny books.old books.new seat.old seat.new (Action.Stage triples.now) result }
     ensures records { KeepsRecords books.old books.new seat.old seat.new (Action.Stage triples.now) result }
 {
-    let Seat::Writing(_, _, upload, _) = seat else {
+    let Seat::Writing(_, _, upload, _, _) = seat else {
         return Answer::Refused(Refusal::WrongPhase);
     };
     let birth = books.versions.commit() + 1;
@@ -100,11 +100,8 @@ fn cancel(books: &mut Books, seat: &mut Seat, number: u16) -> Answer
 {
     match seat {
         Seat::Idle => return Answer::Refused(Refusal::WrongPhase),
-        Seat::Writing(_, _, upload, opened) => {
-            drop_tree(&mut books.pool, upload.root);
-            books.records.give_up(*opened);
-        }
-        Seat::Patching(_, _, opened) => books.records.give_up(*opened),
+        Seat::Writing(_, _, upload, opened, _) => drop_upload(books, *upload, *opened),
+        Seat::Patching(_, _, opened, _) => books.records.give_up(*opened),
         Seat::Reading(_, _) => books.versions.unpin(number),
         Seat::ReadingAll(_, _) => books.versions.unpin(number),
     }

@@ -17,11 +17,12 @@ use gs_versions::Versions;
 #[derive(Drop)]
 pub enum Seat {
     Idle,
-    /// An upload: what it will do, its request number, the tree of what was staged, and the number of
-    /// its open record.
-    Writing(UploadKind, u64, GraphVersion, u32),
-    /// A patch of this target's graph, its request number, and the number of its open record.
-    Patching(Target, u64, u32),
+    /// An upload: what it will do, its request number, the tree of what was staged, the number of its
+    /// open record, and the commit number since which its target must not have been written.
+    Writing(UploadKind, u64, GraphVersion, u32, Option<u64>),
+    /// A patch of this target's graph, its request number, the number of its open record, and such a
+    /// commit number.
+    Patching(Target, u64, u32, Option<u64>),
     /// A read: the root of its tree, and the key of the last line that was given.
     Reading(Option<u32>, Option<Key>),
     /// A read of all graphs: the version of the dataset, and the place of the last line that was given,
@@ -41,6 +42,10 @@ pub struct Books {
     pub pool: Pool,
     pub versions: Versions,
     pub records: Records,
+    /// The number of the last commit that wrote the default graph, or emptied it.
+    pub default_write: u64,
+    /// That of the last Delete of a name.
+    pub last_delete: u64,
 }
 
 /// Whether the target has a graph.

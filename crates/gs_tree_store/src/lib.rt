@@ -5,6 +5,7 @@ mod actions;
 mod books;
 mod commits;
 mod drafts;
+mod last_writes;
 mod names;
 mod patches;
 mod posts;

@@ -43,8 +43,8 @@ pub fn head(books: &mut Books, seat: &mut Seat, scope: &Scope) -> Answer
     let Seat::Idle = seat else {
         return Answer::Refused(Refusal::WrongPhase);
     };
-    let there = has_scope(books, scope);
-    Answer::Status(if there { 200 } else { 404 }, None)
+    let status = if has_scope(books, scope) { 200 } else { 404 };
+    Answer::Status(status, None, books.versions.commit())
 }
 
 /// Begins a read of a graph or of all of them, as they are now, if the seat is idle and the graph is
@@ -70,11 +70,11 @@ fn pin_one(books: &mut Books, seat: &mut Seat, number: u16, target: &Target) -> 
         return Answer::Refused(Refusal::WrongPhase);
     };
     let Some(version) = books.records.get(target) else {
-        return Answer::Pinned(404);
+        return Answer::Pinned(404, books.versions.commit());
     };
     books.versions.pin(number);
     *seat = Seat::Reading(version.root, None);
-    Answer::Pinned(200)
+    Answer::Pinned(200, books.versions.commit())
 }
 
 /// Begins a read of all graphs.
@@ -89,7 +89,7 @@ fn pin_all(books: &mut Books, seat: &mut Seat, number: u16) -> Answer
     // The number of the last commit says that records are listed in order, and that none is later.
     let _last = books.records.latest();
     *seat = Seat::ReadingAll(pinned(&mut books.versions, number), None);
-    Answer::Pinned(200)
+    Answer::Pinned(200, books.versions.commit())
 }
 
 /// Pins the current version for the seat of this number, and answers which it is.

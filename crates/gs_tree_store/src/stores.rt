@@ -81,6 +81,8 @@ impl TreeStore {
             pool,
             versions,
             records,
+            default_write: commit,
+            last_delete: commit,
         };
         Ok(TreeStore {
             alloc,

@@ -2,7 +2,9 @@ use Rattle.std.proofs.Common.{◌≡◌, ◌+◌, None, Some, arith, refl, sym, 
 use Rattle.gs_event.specs.Datasets.{triples_in, names_in, without_graph}
 use Rattle.gs_event.proofs.DatasetLemmas.{triples_in-without_graph}
 use Rattle.gs_plain.specs.Books.{dataset_of}
+use Rattle.gs_plain.specs.LastWrites.{names_written}
 use Rattle.gs_plain.specs.Newest.{NewestRow}
+use Rattle.gs_plain.proofs.LastWriteLemmas.{writes, writes_end, writes_without}
 use Rattle.gs_plain.proofs.PastLemmas.{dated_more, dated_end}
 use Rattle.gs_plain.proofs.RowLemmas.{last_at}
 use Rattle.gs_plain.proofs.WriteLemmas.{same_rows, rows_end, dataset_end, dataset_without}
@@ -20,6 +22,7 @@ returns-in_default c =
       triples = c.requires.triples ∙ sym (ap triples_in same);
       fewer = omega (arith, c.requires.triples, triples_in-without_graph m c.args.target.now, c.requires.counted.triples);
       names = c.requires.names ∙ sym (ap names_in same);
+      last_writes = (λ i. writes (c.default_after-books.ensures i) (names_written books.rows.items) (c.removal_after-books.ensures i)) ∙ writes_without books.default_write books.last_removal (books.commit + 1) books.rows.items c.args.target.now found;
       as_many = refl;
     }
 
@@ -37,5 +40,6 @@ returns c =
       triples = c.requires.triples ∙ sym (ap triples_in ended);
       fewer = omega (arith, c.requires.triples, triples_in-without_graph m c.args.target.now, c.requires.counted.triples);
       names = c.requires.names ∙ sym (ap names_in ended);
+      last_writes = (λ i. writes (c.default_after-books.ensures i) (names_written (items i)) (c.removal_after-books.ensures i)) ∙ writes_end books.default_write books.last_removal (books.commit + 1) books.rows.items c.args.target.now c.in-Some.i found.last;
       as_many = c.end_row.ensures.len;
     }

@@ -3,6 +3,8 @@ use Rattle.gs_event.specs.Datasets.{triples_in, names_in, with_graph}
 use Rattle.gs_event.proofs.DatasetLemmas.{triples_in-with_graph}
 use Rattle.gs_plain.specs.declared.books.Row.{Row}
 use Rattle.gs_plain.specs.Books.{dataset_of}
+use Rattle.gs_plain.specs.LastWrites.{names_written}
+use Rattle.gs_plain.proofs.LastWriteLemmas.{writes, writes_push}
 use Rattle.gs_plain.proofs.PastLemmas.{dated_push, dated_more}
 use Rattle.gs_plain.proofs.RowLemmas.{dataset_push}
 use Rattle.gs_plain.proofs.WriteLemmas.{rows_push}
@@ -28,5 +30,6 @@ returns c =
       triples = c.requires.triples ∙ sym (ap triples_in pushed);
       moved = omega (arith, c.requires.triples, triples_in-with_graph m c.args.target c.args.graph, c.requires.counted.triples);
       names = c.requires.names ∙ sym (ap names_in pushed);
+      last_writes = (λ i. writes (c.default_after-books.ensures i) (names_written (c.push_reserved.ensures.items i)) c.args.books.now.last_removal) ∙ writes_push c.args.books.now.default_write c.args.books.now.last_removal c.args.books.now.rows.items row refl;
       one_more = c.push_reserved.ensures.len;
     }

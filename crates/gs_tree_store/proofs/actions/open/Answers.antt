@@ -11,7 +11,7 @@ use Rattle.gs_tree_store.proofs.actions.open.Goals as goal
 pub returns-clause-acts : goal.returns-clause-acts
 returns-clause-acts c = λ s.
     let same : c.in-Ok.kept ≡ c.args.kind.now = search rules in
-    upload_opened c.args.books.now s c.args.seat.now c.args.kind.now c.in-Ok.kept c.empty.result c.in-Ok-open.opened c.open.new.self c.in-Idle.is same c.empty.ensures (omega arith) c.in-Ok-open.ensures.ok
+    upload_opened c.args.books.now s c.args.seat.now c.args.kind.now c.in-Ok.kept c.empty.result c.in-Ok-open.opened c.args.since c.open.new.self c.in-Idle.is same c.empty.ensures (omega arith) c.in-Ok-open.ensures.ok
 
 pub returns-clause-records : goal.returns-clause-records
 returns-clause-records c =
@@ -19,6 +19,6 @@ returns-clause-records c =
     let new : Books = record b { request = b.request + 1; records = c.open.new.self } in
     let n = c.in-Ok-open.opened in
     let opens = c.in-Ok-open.ensures.ok in
-    let now = Writing c.in-Ok.kept (b.request + 1) c.empty.result n in
-    subst (λ x. KeepsRecords b new x now (Open c.args.kind.now) (Opened (b.request + 1))) (sym c.in-Idle.is)
-    (record_opened b new Idle now (Open c.args.kind.now) (Opened (b.request + 1)) n refl refl opens opens.used opens.waste)
+    let now = Writing c.in-Ok.kept (b.request + 1) c.empty.result n c.args.since in
+    subst (λ x. KeepsRecords b new x now (Open c.args.kind.now c.args.since) (Opened (b.request + 1))) (sym c.in-Idle.is)
+    (record_opened b new Idle now (Open c.args.kind.now c.args.since) (Opened (b.request + 1)) n refl refl opens opens.used opens.waste)

@@ -1,4 +1,4 @@
-use Rattle.std.proofs.Common.{◌∷◌, sym, ap, subst, arith}
+use Rattle.std.proofs.Common.{◌∷◌, refl, sym, ap, subst, arith}
 use Rattle.gs_tree.specs.Tree.{tree_at}
 use Rattle.gs_catalogue.specs.declared.versions.GraphVersion.{GraphVersion}
 use Rattle.gs_versions.specs.Pins.{Pins}
@@ -17,7 +17,7 @@ end_tree-requires-clause-root c =
     (target_retirable b.dict.terms b.pool (graphs_of b) c.args.target c.requires.sound.versions b.versions (tree_at b.pool c.args.upload.root ∷ u.uploads) u.reads (dead_at b.pool) u.ledger)
 
 pub put-requires-clause-later : goal.put-requires-clause-later
-put-requires-clause-later c = omega (arith, c.commit-commit.ensures, ap (λ (v : Pins). v.commit) c.end_tree.ensures.commit, c.requires.sound.latest)
+put-requires-clause-later c = omega (arith, c.commit-number.ensures, ap (λ (v : Pins). v.commit) c.end_tree.ensures.commit, c.requires.sound.latest)
 
 pub returns : goal.returns
 returns c =
@@ -25,6 +25,6 @@ returns c =
     let t = c.args.target in
     let ended = c.end_tree.ensures in
     let put = c.put.ensures in
-    let new : Books = record b { pool = c.end_tree.new.pool; versions = c.end_tree.new.versions; records = c.put.new.self } in
-    let ends = tree_ended b t c.or_empty-old.result new.pool new.versions new.records (version_found b t c.args.found c.or_empty-old.result c.or_empty-old.ensures c.requires.found) ended.commit ended.nodes ended.aside ended.ledgers in
-    put_made b new c.args.opened t c.args.upload c.commit-commit.result ends put c.commit-commit.ensures c.requires.opened c.requires.sound c.requires.upload.version c.requires.number
+    let new : Books = record b { pool = c.end_tree.new.pool; versions = c.end_tree.new.versions; records = c.put.new.self; default_write = c.by_target-books.result } in
+    let ends = tree_ended b t c.or_empty-old.result new.pool new.versions new.records new.default_write b.last_delete (version_found b t c.args.found c.or_empty-old.result c.or_empty-old.ensures c.requires.found) ended.commit ended.nodes ended.aside ended.ledgers in
+    put_made b new c.args.opened t c.args.upload c.commit-number.result ends put c.commit-number.ensures c.by_target-books.ensures refl c.requires.opened c.requires.sound c.requires.upload.version c.requires.number

@@ -13,6 +13,6 @@ returns-clause-records c =
     let new : Books = record b { request = b.request + 1; records = c.open.new.self } in
     let n = c.in-Ok-open.opened in
     let opens = c.in-Ok-open.ensures.ok in
-    let now = Patching c.in-Ok.kept (b.request + 1) n in
-    subst (λ x. KeepsRecords b new x now (OpenPatch c.args.target.now) (Opened (b.request + 1))) (sym c.in-Idle.is)
-    (record_opened b new Idle now (OpenPatch c.args.target.now) (Opened (b.request + 1)) n refl refl opens opens.used opens.waste)
+    let now = Patching c.in-Ok.kept (b.request + 1) n c.args.since in
+    subst (λ x. KeepsRecords b new x now (OpenPatch c.args.target.now c.args.since) (Opened (b.request + 1))) (sym c.in-Idle.is)
+    (record_opened b new Idle now (OpenPatch c.args.target.now c.args.since) (Opened (b.request + 1)) n refl refl opens opens.used opens.waste)
