@@ -65,6 +65,13 @@ fn body_text(alloc: Global, framing: Framing) -> Result<String, AllocError> {
     }
 }
 
+fn since_text(alloc: Global, since: Option<u64>) -> Result<String, AllocError> {
+    match since {
+        Some(number) => format!(in alloc; " since {number}"),
+        None => Ok(String::new(alloc)),
+    }
+}
+
 fn asked_text(alloc: Global, asked: &Asked) -> Result<String, AllocError> {
     let awaits = if asked.awaits_continue {
         " continue"
@@ -72,8 +79,9 @@ fn asked_text(alloc: Global, asked: &Asked) -> Result<String, AllocError> {
         ""
     };
     let framing = body_text(alloc, asked.framing)?;
+    let since = since_text(alloc, asked.since)?;
     format!(in alloc;
-        "{} {} body {} {framing} reply {}{awaits}{}",
+        "{} {} body {} {framing} reply {}{since}{awaits}{}",
         method_name(asked.method),
         graph_name(&asked.graph),
         media_name(asked.body),

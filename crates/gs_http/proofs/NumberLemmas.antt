@@ -1,5 +1,5 @@
 -- A number read digit by digit.
-use Rattle.std.proofs.Common.{◌≡◌, ℕ, ◌+◌, ◌-◌, ◌*◌, ◌<◌, ◌≤◌, min, true, List, [], ◌∷◌, ◌++◌, length, take, get_or, refl, ap, ◌∙◌, arith}
+use Rattle.std.proofs.Common.{◌≡◌, ℕ, ◌+◌, ◌-◌, ◌*◌, ◌^◌, ◌<◌, ◌≤◌, min, true, List, [], ◌∷◌, ◌++◌, length, take, get_or, refl, ap, ◌∙◌, arith}
 use Rattle.std.specs.List.{list_all}
 use Rattle.std.specs.Char.{is_ascii_digit, digit_value}
 use Rattle.std.specs.Str.Parse.{digits_value, digits_value_after}
@@ -10,6 +10,10 @@ use Rattle.std.proofs.lemmas.Bool.{and_parts, leb-true}
 use Rattle.std.proofs.lemmas.Bool.Decides.{Decides-by_and}
 use Rattle.std.proofs.lemmas.List.Elements.{All-get_or}
 use Rattle.gs_http.specs.Framing.{capped, is_number}
+use Rattle.std.specs.Str.Parse.{AllDigits}
+use Rattle.std.proofs.lemmas.Int.Digits.{digits_value-lt}
+use Rattle.std.proofs.Math.Nat.{pow-le-pow_right}
+use Rattle.gs_http.specs.Conditions.{is_commit_number}
 
 digits_value_after-push : (r n : ℕ) (xs : List ℕ) (c : ℕ)
     → digits_value_after r n (xs ++ c ∷ []) ≡ digits_value_after r n xs * r + digit_value c
@@ -37,3 +41,22 @@ digit_at xs number i lt =
     let one : is_ascii_digit (get_or xs i 0) ≡ true = All-get_or P xs i 0 lt all in
     let parts = and_parts (nat_le 48 (get_or xs i 0)) (nat_le (get_or xs i 0) 57) one in
     (leb-true 48 (get_or xs i 0) parts.0, leb-true (get_or xs i 0) 57 parts.1)
+
+all_digits : (xs : List ℕ) → list_all is_ascii_digit xs ≡ true → AllDigits 10 xs
+all_digits [] e = tt
+all_digits (x ∷ xs) e =
+    let parts = and_parts (is_ascii_digit x) (list_all is_ascii_digit xs) e in
+    let range = and_parts (nat_le 48 x) (nat_le x 57) parts.0 in
+    let low = leb-true 48 x range.0 in
+    let high = leb-true x 57 range.1 in
+    (omega (arith, digit_value_digit x (low, high), low, high), all_digits xs parts.1)
+
+-- 18 digits are below 2^64
+pub commit_number_fits : (v : List ℕ) → is_commit_number v ≡ true → capped (digits_value 10 v) ≡ digits_value 10 v
+commit_number_fits v e =
+    let parts = and_parts (is_number v) (nat_le (length v) 18) e in
+    let digits = all_digits v (and_parts (list_all is_ascii_digit v) _ parts.0).0 in
+    let below = digits_value-lt 10 v digits in
+    let ten : 0 < 10 = omega arith in
+    let few : 10 ^ length v ≤ 10 ^ 18 = pow-le-pow_right ten (leb-true (length v) 18 parts.1) in
+    omega (arith, below, few)

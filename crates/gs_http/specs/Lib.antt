@@ -6,5 +6,6 @@ pub mod Chunks
 pub mod Fields
 pub mod Values
 pub mod Framing
+pub mod Conditions
 pub mod Connections
 pub mod Opened

@@ -45,14 +45,14 @@ fn all_digits(value: &[u8]) -> bool
 }
 
 /// Whether these are digits, and one at least.
-fn is_number(value: &[u8]) -> bool
+pub(crate) fn is_number(value: &[u8]) -> bool
     ensures { result ≡ is_number value.now }
 {
     all_digits(value) && !value.is_empty()
 }
 
 /// The number of these digits, or the last one that a `u64` has.
-fn number(value: &[u8]) -> u64
+pub(crate) fn number(value: &[u8]) -> u64
     requires { is_number value.now ≡ true }
     ensures { result ≡ capped (digits_value 10 value.now) }
 {

@@ -2,6 +2,7 @@
 #![tactic(auto)]
 
 mod chunks;
+mod conditions;
 mod connections;
 mod fields;
 mod framing;
@@ -12,6 +13,7 @@ mod trimming;
 mod values;
 
 pub use chunks::read_chunk_size;
+pub use conditions::{Since, read_since};
 pub use connections::{closes, expects_continue, has_one_host};
 pub use framing::{Framing, body_framing};
 pub use heads::{Head, read_head};

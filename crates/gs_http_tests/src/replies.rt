@@ -5,13 +5,15 @@ use gs_verdict::Allow;
 use std::alloc::{AllocError, Global};
 use std::test::Fail;
 
-/// Two replies without a body, then two in chunks, by hand from RFC 9112.
+/// Three replies without a body, then two in chunks, by hand from RFC 9112.
 const WRITTEN: &[u8] = b"\
 HTTP/1.1 405 Method Not Allowed\r\nContent-Length: 0\r\nAllow: GET, HEAD, POST\r\n\r\n\
-HTTP/1.1 201 Created\r\nContent-Length: 0\r\nLocation: http://h/g\r\n\r\n\
-HTTP/1.1 200 OK\r\nContent-Type: application/n-quads\r\nTransfer-Encoding: chunked\r\n\r\n\
+HTTP/1.1 201 Created\r\nContent-Length: 0\r\nLocation: http://h/g\r\nStore-Commit: 10\r\n\r\n\
+HTTP/1.1 412 Precondition Failed\r\nContent-Length: 0\r\nStore-Commit: 0\r\nConnection: close\r\n\r\n\
+HTTP/1.1 200 OK\r\nContent-Type: application/n-quads\r\nTransfer-Encoding: chunked\r\nStore-Commit: 7\r\n\r\n\
 0\r\n\r\n\
-HTTP/1.1 200 OK\r\nContent-Type: text/turtle\r\nTransfer-Encoding: chunked\r\nConnection: close\r\n\r\n\
+HTTP/1.1 200 OK\r\nContent-Type: text/turtle\r\nTransfer-Encoding: chunked\r\n\
+Store-Commit: 999999999999999999\r\nConnection: close\r\n\r\n\
 11\r\n<a:b> <a:b> 10 .\n\r\n0\r\n\r\n";
 
 /// A line in a list that has room for so many bytes more.
@@ -23,11 +25,14 @@ fn line(alloc: Global, room: usize) -> Result<Vec<u8>, AllocError> {
 
 fn written(alloc: Global, room: usize) -> Result<Vec<u8>, AllocError> {
     let mut text = Vec::new(alloc);
-    push_reply(&mut text, 405, ReplyNote::Allows(Allow::OfStore), false)?;
-    push_reply(&mut text, 201, ReplyNote::Made(b"http://h/g"), false)?;
-    push_lines_head(&mut text, ReplyType::NQuads, false)?;
+    let allowed = ReplyNote::Allows(Allow::OfStore);
+    push_reply(&mut text, 405, allowed, None, false)?;
+    let made = ReplyNote::Made(b"http://h/g");
+    push_reply(&mut text, 201, made, Some(10), false)?;
+    push_reply(&mut text, 412, ReplyNote::Nothing, Some(0), true)?;
+    push_lines_head(&mut text, ReplyType::NQuads, 7, false)?;
     push_last_chunk(&mut text)?;
-    push_lines_head(&mut text, ReplyType::Turtle, true)?;
+    push_lines_head(&mut text, ReplyType::Turtle, 999_999_999_999_999_999, true)?;
     text = chunk_after(alloc, text.as_slice(), line(alloc, room)?)?;
     text = chunk_after(alloc, text.as_slice(), Vec::new(alloc))?;
     push_last_chunk(&mut text)?;

@@ -1,12 +1,13 @@
 -- Examples of replies (RFC 9112; RFC 9110, section 15), by computation: the phrase of each status that is served, and
 -- whole texts.
 use Rattle.std.proofs.Common.{◌≡◌, ℕ, List, [], ◌++◌, true, false, refl}
-use Rattle.std.specs.Prelude.{codes}
+use Rattle.std.specs.Prelude.{codes, Some, None}
 use Rattle.std.specs.Fmt.{digits}
 use Rattle.gs_names.specs.declared.media.ReplyType.TheVariants.{NTriples, Turtle, NQuads}
 use Rattle.gs_verdict.specs.declared.methods.Allow.TheVariants.{OfGraphs, OfStore}
 use Rattle.gs_reply.specs.Notices.{Nothing, Allows, Made}
 use Rattle.gs_model.specs.Ascii.{crlf}
+use Rattle.gs_model.specs.Terms.{numeral}
 use Rattle.gs_reply.specs.Replies.{phrase_of, status_line, field_line, type_line, chunked_line}
 use Rattle.gs_reply.specs.Replies.{reply_text, continue_text, lines_head, chunk, last_chunk}
 
@@ -41,6 +42,10 @@ phrase_405 = refl
 phrase_406 : phrase_of 406 ≡ codes "Not Acceptable"
 unfolding phrase_of
 phrase_406 = refl
+
+phrase_412 : phrase_of 412 ≡ codes "Precondition Failed"
+unfolding phrase_of
+phrase_412 = refl
 
 phrase_413 : phrase_of 413 ≡ codes "Payload Too Large"
 unfolding phrase_of
@@ -79,7 +84,7 @@ line : List ℕ → List ℕ
 line x = x ++ crlf
 
 -- a 204 has no length
-no_content : reply_text 204 Nothing true ≡
+no_content : reply_text 204 Nothing None true ≡
     line (codes "HTTP/1.1 204 No Content")
     ++ line (codes "Connection: close")
     ++ line []
@@ -87,7 +92,7 @@ unfolding line reply_text status_line phrase_of field_line
 no_content = refl
 
 -- Allow stands after the length
-not_allowed : reply_text 405 (Allows OfStore) false ≡
+not_allowed : reply_text 405 (Allows OfStore) None false ≡
     line (codes "HTTP/1.1 405 Method Not Allowed")
     ++ line (codes "Content-Length: 0")
     ++ line (codes "Allow: GET, HEAD, POST")
@@ -95,7 +100,7 @@ not_allowed : reply_text 405 (Allows OfStore) false ≡
 unfolding line reply_text status_line phrase_of field_line
 not_allowed = refl
 
-not_allowed_closed : reply_text 405 (Allows OfGraphs) true ≡
+not_allowed_closed : reply_text 405 (Allows OfGraphs) None true ≡
     line (codes "HTTP/1.1 405 Method Not Allowed")
     ++ line (codes "Content-Length: 0")
     ++ line (codes "Allow: GET, HEAD, PUT, POST, DELETE, PATCH")
@@ -104,16 +109,28 @@ not_allowed_closed : reply_text 405 (Allows OfGraphs) true ≡
 unfolding line reply_text status_line phrase_of field_line
 not_allowed_closed = refl
 
-created : reply_text 201 (Made (codes "http://h/g")) false ≡
+-- the number of the commit stands after the name
+created : reply_text 201 (Made (codes "http://h/g")) (Some 10) false ≡
     line (codes "HTTP/1.1 201 Created")
     ++ line (codes "Content-Length: 0")
     ++ line (codes "Location: http://h/g")
+    ++ line (codes "Store-Commit: 10")
     ++ line []
-unfolding line reply_text status_line phrase_of field_line
+unfolding line reply_text status_line phrase_of field_line numeral
 created = refl
 
+-- a write that came too late, and the number of the last write
+late : reply_text 412 Nothing (Some 0) true ≡
+    line (codes "HTTP/1.1 412 Precondition Failed")
+    ++ line (codes "Content-Length: 0")
+    ++ line (codes "Store-Commit: 0")
+    ++ line (codes "Connection: close")
+    ++ line []
+unfolding line reply_text status_line phrase_of field_line numeral
+late = refl
+
 -- 99 is no status
-no_status : reply_text 99 Nothing true ≡
+no_status : reply_text 99 Nothing None true ≡
     line (codes "HTTP/1.1 500 Internal Server Error")
     ++ line (codes "Content-Length: 0")
     ++ line (codes "Connection: close")
@@ -127,29 +144,32 @@ continue : continue_text ≡
 unfolding line continue_text status_line phrase_of
 continue = refl
 
-head : lines_head NTriples false ≡
+head : lines_head NTriples 7 false ≡
     line (codes "HTTP/1.1 200 OK")
     ++ line (codes "Content-Type: application/n-triples")
     ++ line (codes "Transfer-Encoding: chunked")
+    ++ line (codes "Store-Commit: 7")
     ++ line []
-unfolding line lines_head type_line chunked_line status_line phrase_of field_line
+unfolding line lines_head type_line chunked_line status_line phrase_of field_line numeral
 head = refl
 
-head_closed : lines_head Turtle true ≡
+head_closed : lines_head Turtle 305 true ≡
     line (codes "HTTP/1.1 200 OK")
     ++ line (codes "Content-Type: text/turtle")
     ++ line (codes "Transfer-Encoding: chunked")
+    ++ line (codes "Store-Commit: 305")
     ++ line (codes "Connection: close")
     ++ line []
-unfolding line lines_head type_line chunked_line status_line phrase_of field_line
+unfolding line lines_head type_line chunked_line status_line phrase_of field_line numeral
 head_closed = refl
 
-head_quads : lines_head NQuads false ≡
+head_quads : lines_head NQuads 1024 false ≡
     line (codes "HTTP/1.1 200 OK")
     ++ line (codes "Content-Type: application/n-quads")
     ++ line (codes "Transfer-Encoding: chunked")
+    ++ line (codes "Store-Commit: 1024")
     ++ line []
-unfolding line lines_head type_line chunked_line status_line phrase_of field_line
+unfolding line lines_head type_line chunked_line status_line phrase_of field_line numeral
 head_quads = refl
 
 -- 26 is `1a`: letters are small, and no nought stands before

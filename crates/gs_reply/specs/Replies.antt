@@ -1,9 +1,10 @@
 -- The texts of replies (RFC 9112, sections 4 to 7 and 9.6; RFC 9110, section 15).
 use Rattle.std.specs.Prelude.{ℕ, Bool, false, ◌&&◌, nat_le, nat_lt, ◌==◌, if◌then◌else◌, unwrap_or}
-use Rattle.std.specs.Prelude.{List, [], ◌++◌, length, codes}
+use Rattle.std.specs.Prelude.{List, [], ◌++◌, length, codes, Option, Some, None}
 use Rattle.std.specs.Fmt.{digits}
 use Rattle.http.specs.StatusCode.{code_digits, reason_phrase}
 use Rattle.gs_model.specs.Ascii.{crlf}
+use Rattle.gs_model.specs.Terms.{numeral}
 use Rattle.gs_names.specs.declared.media.ReplyType.{ReplyType}
 use Rattle.gs_names.specs.declared.media.ReplyType.TheVariants.{NTriples, Turtle, NQuads}
 use Rattle.gs_verdict.specs.Methods.{allow_text}
@@ -39,10 +40,16 @@ note_line Nothing = []
 note_line (Allows methods) = field_line (codes "Allow") (allow_text methods)
 note_line (Made name) = field_line (codes "Location") name
 
+-- the number of a commit: Store-Commit, this project's own field
+abbrev pub commit_line : Option ℕ → List ℕ
+commit_line None = []
+commit_line (Some n) = field_line (codes "Store-Commit") (numeral n)
+
 -- a reply without a body
-unfoldable pub reply_text : ℕ → Notice → Bool → List ℕ
-reply_text n notice closes =
-    status_line (code_of n) ++ length_line (code_of n) ++ note_line notice ++ close_line closes ++ crlf
+unfoldable pub reply_text : ℕ → Notice → Option ℕ → Bool → List ℕ
+reply_text n notice commit closes =
+    status_line (code_of n) ++ length_line (code_of n) ++ note_line notice ++ commit_line commit ++ close_line closes
+    ++ crlf
 
 -- the reply before a body that is awaited (RFC 9110, section 15.2.1)
 unfoldable pub continue_text : List ℕ
@@ -63,8 +70,9 @@ unfoldable pub chunked_line : List ℕ
 chunked_line = field_line (codes "Transfer-Encoding") (codes "chunked")
 
 -- the head of a reply whose body comes in chunks
-unfoldable pub lines_head : ReplyType → Bool → List ℕ
-lines_head reply closes = status_line 200 ++ type_line reply ++ chunked_line ++ close_line closes ++ crlf
+unfoldable pub lines_head : ReplyType → ℕ → Bool → List ℕ
+lines_head reply commit closes =
+    status_line 200 ++ type_line reply ++ chunked_line ++ commit_line (Some commit) ++ close_line closes ++ crlf
 
 -- chunk (RFC 9112, section 7.1), its size in lower-case hexadecimal; a piece without bytes is none
 unfoldable pub chunk : List ℕ → List ℕ

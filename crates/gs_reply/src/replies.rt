@@ -1,7 +1,7 @@
 //! The texts of replies. Each call adds a text to a list, or makes one of a text and a piece; where
 //! memory is wanted the list is of no more use.
 ghost use Rattle.std.specs.Fmt.{digits};
-ghost use Rattle.std.specs.Prelude.{◌≡◌, ◌++◌, false, IfOk, OnOk};
+ghost use Rattle.std.specs.Prelude.{◌≡◌, ◌++◌, false, Some, IfOk, OnOk};
 ghost use Rattle.gs_model.specs.Ascii.{crlf};
 ghost use Rattle.gs_reply.specs.Notices.{notice_of};
 ghost use Rattle.gs_reply.specs.Replies as spec;
@@ -9,12 +9,13 @@ ghost use Rattle.gs_reply.specs.Replies as spec;
 use gs_names::ReplyType;
 use gs_verdict::Allow;
 use http::StatusCode;
+use itoa::Buffer;
 use std::alloc::{AllocError, Global};
 use std::io::Write;
 
-/// The most bytes of a head of a reply, but for a name in it: the longest phrase has 31, and of the
-/// notes the longest is the field Allow with all six methods.
-const HEAD_BYTES: usize = 130;
+/// The most bytes of a head of a reply, but for a name in it: the longest phrase has 31, of the notes
+/// the longest is the field Allow with all six methods, and the number of a commit has 20 at most.
+const HEAD_BYTES: usize = 166;
 
 /// The most bytes of a chunk beside its piece: 16 digits and two line ends.
 const FRAME_BYTES: usize = 20;
@@ -105,6 +106,23 @@ fn push_note(text: &mut Vec<u8>, note: ReplyNote<'_>) -> Result<(), AllocError>
     }
 }
 
+/// Adds the field with the number of a commit.
+fn push_number(text: &mut Vec<u8>, number: u64) -> Result<(), AllocError>
+    ensures { OnOk result (text.new.items ≡ text.old.items ++ spec.commit_line (Some number)) }
+{
+    let mut digits = Buffer::new();
+    push_field(text, b"Store-Commit", digits.format(number).as_bytes())
+}
+
+fn push_commit(text: &mut Vec<u8>, commit: Option<u64>) -> Result<(), AllocError>
+    ensures { OnOk result (text.new.items ≡ text.old.items ++ spec.commit_line commit) }
+{
+    match commit {
+        Some(number) => push_number(text, number),
+        None => Ok(()),
+    }
+}
+
 /// The most bytes of a reply without a body that says this.
 fn room_for(note: ReplyNote<'_>) -> usize {
     match note {
@@ -120,16 +138,18 @@ pub fn push_reply(
     text: &mut Vec<u8>,
     status: u16,
     note: ReplyNote<'_>,
+    commit: Option<u64>,
     closes: bool,
 ) -> Result<(), AllocError>
     ensures { OnOk result
-        (text.new.items ≡ text.old.items ++ spec.reply_text status (notice_of note.entry) closes) }
+        (text.new.items ≡ text.old.items ++ spec.reply_text status (notice_of note.entry) commit closes) }
 {
     let code = code_of(status);
     text.reserve(room_for(note))?;
     push_status(text, code)?;
     push_length(text, code)?;
     push_note(text, note)?;
+    push_commit(text, commit)?;
     push_close(text, closes)?;
     text.extend_from_slice(b"\r\n")
 }
@@ -161,13 +181,19 @@ fn push_chunked(text: &mut Vec<u8>) -> Result<(), AllocError>
 /// Adds the head of a reply whose body comes in chunks. A HEAD's reply ends there. Memory is taken
 /// once, before the first byte.
 #[tactic(auto, unfolding(crate::specs::Replies::lines_head))]
-pub fn push_lines_head(text: &mut Vec<u8>, reply: ReplyType, closes: bool) -> Result<(), AllocError>
-    ensures { OnOk result (text.new.items ≡ text.old.items ++ spec.lines_head reply closes) }
+pub fn push_lines_head(
+    text: &mut Vec<u8>,
+    reply: ReplyType,
+    commit: u64,
+    closes: bool,
+) -> Result<(), AllocError>
+    ensures { OnOk result (text.new.items ≡ text.old.items ++ spec.lines_head reply commit closes) }
 {
     text.reserve(HEAD_BYTES)?;
     push_status(text, StatusCode::OK)?;
     push_type(text, reply)?;
     push_chunked(text)?;
+    push_number(text, commit)?;
     push_close(text, closes)?;
     text.extend_from_slice(b"\r\n")
 }

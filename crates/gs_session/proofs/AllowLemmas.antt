@@ -27,9 +27,9 @@ allowed-append p (d ∷ ds) f k j = (k.0, allowed-append (phase_then p d) ds f k
 -- the first move
 
 first_allowed : (a : Asked) (p : Plan) (m : Move) → IsRight (first a p m) → AreAllowed phase.Idle (deed_of m)
-first_allowed a (Uploads k) (Did (Open j) answer) h = (refl, tt)
-first_allowed a (Patches t) (Did (OpenPatch u) answer) h = (refl, tt)
-first_allowed a (Deletes t) (Did (Delete u) answer) h = (refl, tt)
+first_allowed a (Uploads k since) (Did (Open j given) answer) h = (refl, tt)
+first_allowed a (Patches t since) (Did (OpenPatch u given) answer) h = (refl, tt)
+first_allowed a (Deletes t since) (Did (Delete u given) answer) h = (refl, tt)
 first_allowed a (Looks t) (Did (Head u) answer) h = (refl, tt)
 first_allowed a (Reads t) (Did (Pin u) answer) h = (refl, tt)
 first_allowed a p Short h = tt
@@ -38,8 +38,8 @@ first_allowed a p m h = absurd h
 -- in an upload
 
 writing_allowed : (p : Plan) (r : ℕ) (g : List RdfTriple) (m : Move) → IsPlanned p (Writing r g) → IsRight (writing r g m) → AreAllowed (writing_phase p r g) (deed_of m)
-writing_allowed p r g (Did (Stage v) answer) o h = (ap (λ (q : Plan). allows (writing_phase q r g) (Stage v)) o.1, tt)
-writing_allowed p r g (Did Commit answer) o h = (ap (λ (q : Plan). allows (writing_phase q r g) Commit) o.1, tt)
+writing_allowed p r g (Did (Stage v) answer) o h = (ap (λ (q : Plan). allows (writing_phase q r g) (Stage v)) o.2, tt)
+writing_allowed p r g (Did Commit answer) o h = (ap (λ (q : Plan). allows (writing_phase q r g) Commit) o.2, tt)
 writing_allowed p r g (Did Cancel answer) o h = (drops_upload p r g o, tt)
 writing_allowed p r g Short o h = tt
 writing_allowed p r g m o h = absurd h
@@ -47,7 +47,7 @@ writing_allowed p r g m o h = absurd h
 -- in a patch
 
 patching_allowed : (p : Plan) (r : ℕ) (m : Move) → IsPlanned p (Patching r) → IsRight (patching r m) → AreAllowed (patching_phase p r) (deed_of m)
-patching_allowed p r (Did (CommitPatch ops) answer) o h = (ap (λ (q : Plan). allows (patching_phase q r) (CommitPatch ops)) o.1, tt)
+patching_allowed p r (Did (CommitPatch ops) answer) o h = (ap (λ (q : Plan). allows (patching_phase q r) (CommitPatch ops)) o.2, tt)
 patching_allowed p r (Did Cancel answer) o h = (drops_patch p r o, tt)
 patching_allowed p r Short o h = tt
 patching_allowed p r m o h = absurd h
@@ -87,11 +87,11 @@ after_allowed a piece (Cutting out) m few s o h = cancelling_allowed (phase.Read
 after_allowed a piece (Early l) m few s o h = ready_allowed _ (Early l) m h
 after_allowed a piece (Late l) m few s o h = ready_allowed _ (Late l) m h
 after_allowed a piece (Dropped r) m few s o h = ready_allowed _ (Dropped r) m h
-after_allowed a piece (Wrote r g st n) m few s o h = ready_allowed _ (Wrote r g st n) m h
-after_allowed a piece (Patched r ops st) m few s o h = ready_allowed _ (Patched r ops st) m h
-after_allowed a piece (Erased st) m few s o h = ready_allowed _ (Erased st) m h
-after_allowed a piece (Looked st) m few s o h = ready_allowed _ (Looked st) m h
-after_allowed a piece (Missing st) m few s o h = ready_allowed _ (Missing st) m h
+after_allowed a piece (Wrote r g st name number) m few s o h = ready_allowed _ (Wrote r g st name number) m h
+after_allowed a piece (Patched r ops st number) m few s o h = ready_allowed _ (Patched r ops st number) m h
+after_allowed a piece (Erased st number) m few s o h = ready_allowed _ (Erased st number) m h
+after_allowed a piece (Looked st number) m few s o h = ready_allowed _ (Looked st number) m h
+after_allowed a piece (Missing st number) m few s o h = ready_allowed _ (Missing st number) m h
 after_allowed a piece c m few s o h = absurd h
 
 -- all moves of a request

@@ -36,10 +36,10 @@ greeted_upload a before r g at = ap (λ (c : Course). said_so_far a c) at ∙ ap
 -- The graph that the whole body means is staged: the Commit is made.
 pub commit_leads : {s : Server} {e : Bool} (a : Asked) (k : Work) (r : ℕ) (g : List RdfTriple) (answer : Answer) (b x : List ℕ) (h : Deeds) (said body : List ℕ) (l : LeadsTo s e (Serving a k) b x h said)
     → l.trail.course ≡ Writing r g → IsWholeAt l body → States s.base a r body g → refusal_at s.base a (plan_of a) r body ≡ None → (n : Next) → AfterCommit a answer n → LeadsTo s e n.phase b x (h ++ (act.Commit, answer) ∷ []) (said ++ n.said.items)
-commit_leads a k r g (Status st name) b x h said body l at whole means served n o =
-    replies a k (Did act.Commit (Status st name) ∷ []) (Wrote r g st name) body (reply_text st (name_notice name) a.closes) a.closes b x h said l whole
-    (few_still a k b x h said l body (Did act.Commit (Status st name) ∷ []) whole refl)
-    (record { suits = (tt, tt); came = ap (λ (c : Course). course_after a c (Did act.Commit (Status st name))) at; mute = refl; own = means; settled = refl; greeted = greeted_upload a l.trail.course r g at }) n o
+commit_leads a k r g (Status st name number) b x h said body l at whole means served n o =
+    replies a k (Did act.Commit (Status st name number) ∷ []) (Wrote r g st name number) body (reply_text st (name_notice name) (Some number) a.closes) a.closes b x h said l whole
+    (few_still a k b x h said l body (Did act.Commit (Status st name number) ∷ []) whole refl)
+    (record { suits = (tt, tt); came = ap (λ (c : Course). course_after a c (Did act.Commit (Status st name number))) at; mute = refl; own = means; settled = refl; greeted = greeted_upload a l.trail.course r g at }) n o
 commit_leads a k r g (Refused why.NoMemory) b x h said body l at whole means served n o =
     reads_on a k (Failing want.Memory) (Did act.Commit (Refused why.NoMemory) ∷ []) (Lacking (Writing r g) Memory) [] b x h said body l whole (tt, tt) (ap (λ (c : Course). course_after a c (Did act.Commit (Refused why.NoMemory))) at)
     (append-nil (said_so_far a l.trail.course) ∙ ap (λ (c : Course). said_so_far a c) at) refl (Writing r g, refl, tt) n o
@@ -85,7 +85,7 @@ pub drop_leads : {s : Server} {e : Bool} (a : Asked) (k : Work) (c : Course) (r 
     → l.trail.course ≡ c → IsOpenAt a c r → IsWholeAt l body → refusal_at s.base a (plan_of a) r body ≡ Some st → (n : Next) → AfterCancel st a.closes answer n
     → LeadsTo s e n.phase b x (h ++ (act.Cancel, answer) ∷ []) (said ++ n.said.items)
 drop_leads a k c r st Cancelled b x h said body l at is whole why n o =
-    replies a k (Did act.Cancel Cancelled ∷ []) (Dropped r) body (reply_text st Nothing a.closes) a.closes b x h said l whole (few_still a k b x h said l body (Did act.Cancel Cancelled ∷ []) whole refl)
+    replies a k (Did act.Cancel Cancelled ∷ []) (Dropped r) body (reply_text st Nothing None a.closes) a.closes b x h said l whole (few_still a k b x h said l body (Did act.Cancel Cancelled ∷ []) whole refl)
     (record { suits = (tt, tt); came = ap (λ (c : Course). course_after a c (Did act.Cancel Cancelled)) at ∙ is.cancels Cancelled; mute = refl; own = tt; settled = (st, why, refl); greeted = ap (λ (c : Course). said_so_far a c) at ∙ is.greeted }) n o
 drop_leads {s} a k c r st answer b x h said body l at is whole why n o =
     broke a k (Did act.Cancel answer) c b b x h said l (tt, tt) at (is.cancels answer) (is.own s.base) (no_more a k b x h said l) n o
@@ -107,17 +107,17 @@ fault_leads {s} {e} a k c r st front Cancelled b x h said l at is faulty n o = g
 
     go : Replies n st true → LeadsTo s e n.phase b x (h ++ (act.Cancel, Cancelled) ∷ []) (said ++ n.said.items)
     go (inl y) =
-        to_next n Over (reply_text st Nothing true) b x (h ++ (act.Cancel, Cancelled) ∷ []) said y
-        (answers_fault a k (Did act.Cancel Cancelled ∷ []) front st (reply_text st Nothing true) (reply_text st Nothing true) b b x h said l faulty (tt, tt)
+        to_next n Over (reply_text st Nothing None true) b x (h ++ (act.Cancel, Cancelled) ∷ []) said y
+        (answers_fault a k (Did act.Cancel Cancelled ∷ []) front st (reply_text st Nothing None true) (reply_text st Nothing None true) b b x h said l faulty (tt, tt)
         (subst (λ (d : Course). IsOwn s.base a (Faulty front st) d) (sym came) tt) few
-        (subst (λ (d : Course). Settles s.base a (Faulty front st) d (reply_text st Nothing true, false)) (sym came) refl)
-        (ap (λ z. z ++ reply_text st Nothing true) greets ∙ ap (λ (d : Course). greeting a d ++ reply_text st Nothing true) (sym came)))
+        (subst (λ (d : Course). Settles s.base a (Faulty front st) d (reply_text st Nothing None true, false)) (sym came) refl)
+        (ap (λ z. z ++ reply_text st Nothing None true) greets ∙ ap (λ (d : Course). greeting a d ++ reply_text st Nothing None true) (sym came)))
     go (inr y) =
         let mute : course a l.trail.course (Did act.Cancel Cancelled ∷ Short ∷ []) ≡ Mute (Dropped r) = ap (λ (d : Course). course_after a d Short) came in
         to_next n Over [] b x (h ++ (act.Cancel, Cancelled) ∷ []) said y
         (answers_fault a k (Did act.Cancel Cancelled ∷ Short ∷ []) front st [] [] b b x h said l faulty (tt, tt)
         (subst (λ (d : Course). IsOwn s.base a (Faulty front st) d) (sym mute) tt) few
-        (subst (λ (d : Course). Settles s.base a (Faulty front st) d ([], false)) (sym mute) ((((reply_text st Nothing true), false), refl), refl))
+        (subst (λ (d : Course). Settles s.base a (Faulty front st) d ([], false)) (sym mute) ((((reply_text st Nothing None true), false), refl), refl))
         (ap (λ z. z ++ []) greets ∙ ap (λ (d : Course). greeting a d ++ []) (sym mute)))
 fault_leads {s} a k c r st front answer b x h said l at is faulty n o =
     broke a k (Did act.Cancel answer) c b b x h said l (tt, tt) at (is.cancels answer) (is.own s.base) (no_more a k b x h said l) n o
@@ -141,7 +141,7 @@ leave_leads {s} a k c r front answer b x h said l at is ended n y =
 pub memory_leads : {s : Server} {e : Bool} (a : Asked) (before : Course) (answer : Answer) (b x : List ℕ) (h : Deeds) (said : List ℕ) (l : LeadsTo s e (Serving a (Failing want.Memory)) b x h said)
     → l.trail.course ≡ Lacking before Memory → (n : Next) → AfterCancel 503 true answer n → LeadsTo s e n.phase b x (h ++ (act.Cancel, answer) ∷ []) (said ++ n.said.items)
 memory_leads a before Cancelled b x h said l at n o =
-    replies_any a (Failing want.Memory) (Did act.Cancel Cancelled ∷ []) (Late Memory) (reply_text 503 Nothing true) b x h said l refl
+    replies_any a (Failing want.Memory) (Did act.Cancel Cancelled ∷ []) (Late Memory) (reply_text 503 Nothing None true) b x h said l refl
     (λ o. record {
       suits = (tt, tt);
       came = ap (λ (c : Course). course_after a c (Did act.Cancel Cancelled)) at;
@@ -157,7 +157,7 @@ memory_leads a before answer b x h said l at n o =
 pub numbers_leads : {s : Server} {e : Bool} (a : Asked) (before : Course) (r : ℕ) (answer : Answer) (b x : List ℕ) (h : Deeds) (said body : List ℕ) (l : LeadsTo s e (Serving a (Failing want.Numbers)) b x h said)
     → l.trail.course ≡ Lacking before Numbers → IsWholeAt l body → refusal_at s.base a (plan_of a) r body ≡ None → (n : Next) → AfterCancel 507 a.closes answer n → LeadsTo s e n.phase b x (h ++ (act.Cancel, answer) ∷ []) (said ++ n.said.items)
 numbers_leads a before r Cancelled b x h said body l at whole served n o =
-    replies a (Failing want.Numbers) (Did act.Cancel Cancelled ∷ []) (Late Numbers) body (reply_text 507 Nothing a.closes) a.closes b x h said l whole (few_still a (Failing want.Numbers) b x h said l body (Did act.Cancel Cancelled ∷ []) whole refl)
+    replies a (Failing want.Numbers) (Did act.Cancel Cancelled ∷ []) (Late Numbers) body (reply_text 507 Nothing None a.closes) a.closes b x h said l whole (few_still a (Failing want.Numbers) b x h said l body (Did act.Cancel Cancelled ∷ []) whole refl)
     (record {
       suits = (tt, tt);
       came = ap (λ (c : Course). course_after a c (Did act.Cancel Cancelled)) at;

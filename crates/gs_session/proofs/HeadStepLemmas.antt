@@ -136,20 +136,20 @@ denied_mute d b c x h said l f n o = to_next n Over [] c x h said o (denied_by d
 
 denied_says : {s : Server} {e : Bool} (d : Denial) (v : Bool) (b c x : List ℕ) (h : Deeds) (said : List ℕ) (l : LeadsTo s e Between b x h said)
     → ((y : List ℕ) → requests s.base (b ++ y) ≡ Denied d ∷ cond d.closes [] (requests s.base (c ++ y))) → d.closes ≡ v
-    → (n : Next) → Says n (after_reply v) (reply_text d.status (allow_notice d.allow) v) → LeadsTo s e n.phase c x h (said ++ n.said.items)
+    → (n : Next) → Says n (after_reply v) (reply_text d.status (allow_notice d.allow) None v) → LeadsTo s e n.phase c x h (said ++ n.said.items)
 denied_says d true b c x h said l f is n o =
-    let u : List ℕ = reply_text d.status (allow_notice d.allow) true in
-    to_next n Over u c x h said o (denied_by d Over [] u false b c x h said l f (ap (λ z. (reply_text d.status (allow_notice d.allow) z, not z)) (sym is)) refl (λ y. refl) (refl, refl) refl)
+    let u : List ℕ = reply_text d.status (allow_notice d.allow) None true in
+    to_next n Over u c x h said o (denied_by d Over [] u false b c x h said l f (ap (λ z. (reply_text d.status (allow_notice d.allow) None z, not z)) (sym is)) refl (λ y. refl) (refl, refl) refl)
 denied_says {s} d false b c x h said l f is n o =
-    let u : List ℕ = reply_text d.status (allow_notice d.allow) false in
+    let u : List ℕ = reply_text d.status (allow_notice d.allow) None false in
     to_next n Between u c x h said o
-    (denied_by d Between [] u true b c x h said l f (ap (λ z. (reply_text d.status (allow_notice d.allow) z, not z)) (sym is)) refl
+    (denied_by d Between [] u true b c x h said l f (ap (λ z. (reply_text d.status (allow_notice d.allow) None z, not z)) (sym is)) refl
     (λ y. ap (λ z. cond z [] (requests s.base (c ++ y))) (sym is)) (refl, refl) refl)
 
 -- A head is denied.
 pub denied_leads : {s : Server} {e : Bool} (d : Denial) (b c x : List ℕ) (h : Deeds) (said : List ℕ) (l : LeadsTo s e Between b x h said)
     → ((y : List ℕ) → requests s.base (b ++ y) ≡ Denied d ∷ cond d.closes [] (requests s.base (c ++ y)))
-    → (n : Next) → RepliesBy n d.status (allow_notice d.allow) d.closes → LeadsTo s e n.phase c x h (said ++ n.said.items)
+    → (n : Next) → RepliesBy n d.status (allow_notice d.allow) None d.closes → LeadsTo s e n.phase c x h (said ++ n.said.items)
 denied_leads d b c x h said l f n (inl o) = denied_says d d.closes b c x h said l f refl n o
 denied_leads d b c x h said l f n (inr o) = denied_mute d b c x h said l f n o
 
@@ -157,8 +157,8 @@ denied_leads d b c x h said l f n (inr o) = denied_mute d b c x h said l f n o
 pub denied_short : {s : Server} {e : Bool} (d : Denial) (b c x : List ℕ) (h : Deeds) (said : List ℕ) (l : LeadsTo s e Between b x h said)
     → ((y : List ℕ) → requests s.base (b ++ y) ≡ Denied d ∷ cond d.closes [] (requests s.base (c ++ y))) → (n : Next) → Replies n 503 true → LeadsTo s e n.phase c x h (said ++ n.said.items)
 denied_short d b c x h said l f n (inl o) =
-    to_next n Over (reply_text 503 Nothing true) c x h said o
-    (denied_by d Over (Short ∷ []) (reply_text 503 Nothing true) false b c x h said l f (inl refl) refl (λ y. refl) (refl, refl) refl)
+    to_next n Over (reply_text 503 Nothing None true) c x h said o
+    (denied_by d Over (Short ∷ []) (reply_text 503 Nothing None true) false b c x h said l f (inl refl) refl (λ y. refl) (refl, refl) refl)
 denied_short d b c x h said l f n (inr o) = denied_mute d b c x h said l f n o
 
 -- a head that asks
@@ -230,13 +230,13 @@ unheard {s} {e} a ms v b c x h said l f by idle =
 pub asked_short : {s : Server} {e : Bool} (a : Asked) (b c x : List ℕ) (h : Deeds) (said : List ℕ) (l : LeadsTo s e Between b x h said)
     → AsksOn s a b c → (n : Next) → Replies n 503 true → LeadsTo s e n.phase c x h (said ++ n.said.items)
 asked_short {s} a b c x h said l f n (inl o) =
-    to_next n Over (reply_text 503 Nothing true) c x h said o
-    (unheard a (Short ∷ []) (reply_text 503 Nothing true) b c x h said l f
-    (λ o. answers_early s a o (Short ∷ []) (Early Memory) (reply_text 503 Nothing true) (early_is a (plan_of a)) tt refl tt refl (quiet a.awaits_continue)) refl)
+    to_next n Over (reply_text 503 Nothing None true) c x h said o
+    (unheard a (Short ∷ []) (reply_text 503 Nothing None true) b c x h said l f
+    (λ o. answers_early s a o (Short ∷ []) (Early Memory) (reply_text 503 Nothing None true) (early_is a (plan_of a)) tt refl tt refl (quiet a.awaits_continue)) refl)
 asked_short {s} a b c x h said l f n (inr o) =
     to_next n Over [] c x h said o
     (unheard a (Short ∷ Short ∷ []) [] b c x h said l f
-    (λ o. answers_early s a o (Short ∷ Short ∷ []) (Mute (Early Memory)) [] (ap (λ (d : Course). course_after a d Short) (early_is a (plan_of a))) tt refl tt (((reply_text 503 Nothing true, false), refl), refl)
+    (λ o. answers_early s a o (Short ∷ Short ∷ []) (Mute (Early Memory)) [] (ap (λ (d : Course). course_after a d Short) (early_is a (plan_of a))) tt refl tt (((reply_text 503 Nothing None true, false), refl), refl)
     (quiet a.awaits_continue)) refl)
 
 -- What a verdict leads to.
@@ -277,7 +277,7 @@ fewer old new n f = omega (arith, ap length f, length-drop n old)
 pub denies_long : (setup : Setup) (e : Bool) (old new : List ℕ) (k : ℕ) (n : Next) → new ≡ drop k old → new ≡ stripped old → TooLong ≡ head_at new → Replies n 431 true → Rests setup e Between old (Silent n) new
 denies_long setup e old new k n q f g o =
     let bare : stripped new ≡ new = ap stripped f ∙ strip-twice old ∙ sym f in (
-      omega (arith, fewer old new k q, ap rank (over_next n (reply_text 431 Nothing true) o)),
+      omega (arith, fewer old new k q, ap rank (over_next n (reply_text 431 Nothing None true) o)),
       λ x h said l. denied_leads too_long new new x h said (subst (λ (b : List ℕ). LeadsTo (server_of setup) e Between b x h said) (sym f) (lead_dropped old x h said l))
           (λ y. long-requests setup.site new y bare (sym g)) n o,
     )

@@ -31,11 +31,11 @@ starts s b said f g = record {
 -- the end of the input
 
 own_ends : (base : List ℕ) (a : Asked) (front : List ℕ) (c : Course) → IsOwn base a (Unended front false) c → IsOwn base a (Unended front true) c
-own_ends base a front (Wrote r g st name) o = absurd o
-own_ends base a front (Patched r ops st) o = absurd o
-own_ends base a front (Erased st) o = absurd o
-own_ends base a front (Looked st) o = absurd o
-own_ends base a front (Missing st) o = absurd o
+own_ends base a front (Wrote r g st name number) o = absurd o
+own_ends base a front (Patched r ops st number) o = absurd o
+own_ends base a front (Erased st number) o = absurd o
+own_ends base a front (Looked st number) o = absurd o
+own_ends base a front (Missing st number) o = absurd o
 own_ends base a front (Held out due end) o = absurd o
 own_ends base a front (Cutting out) o = absurd o
 own_ends base a front (Cut out) o = absurd o
@@ -51,11 +51,11 @@ settles_ends base a front (Early Numbers) t s = s
 settles_ends base a front (Late Memory) t s = s
 settles_ends base a front (Late Numbers) t s = absurd s.0
 settles_ends base a front (Dropped r) t s = (refl, s.1)
-settles_ends base a front (Wrote r g st name) t s = s
-settles_ends base a front (Patched r ops st) t s = s
-settles_ends base a front (Erased st) t s = s
-settles_ends base a front (Looked st) t s = s
-settles_ends base a front (Missing st) t s = s
+settles_ends base a front (Wrote r g st name number) t s = s
+settles_ends base a front (Patched r ops st number) t s = s
+settles_ends base a front (Erased st number) t s = s
+settles_ends base a front (Looked st number) t s = s
+settles_ends base a front (Missing st number) t s = s
 settles_ends base a front (Held out due true) t s = s
 settles_ends base a front (Cut out) t s = s
 settles_ends base a front (Mute c) t s = ((s.0.0, settles_ends base a front c s.0.0 s.0.1), s.1)

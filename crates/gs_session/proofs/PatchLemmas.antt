@@ -62,18 +62,18 @@ greeted_patch a before r at = ap (λ (c : Course). said_so_far a c) at ∙ appen
 pub patch_refusal : {s : Server} {e : Bool} (a : Asked) (k : Work) (b x : List ℕ) (h : Deeds) (said : List ℕ) (l : LeadsTo s e (Serving a k) b x h said) (r : ℕ) (body : List ℕ) (why : Option Rejection)
     → l.trail.course ≡ Patching r → (request_by (text_base s.base a.graph) r body).1 ≡ why → refusal_at s.base a (plan_of a) r body ≡ rejection_status why
 patch_refusal {s} a k b x h said l r body why at is =
-    ap (λ (p : Plan). refusal_at s.base a p r body) (patch_plan a l.now r (l.keeps.came ∙ at)).1 ∙ ap (λ (f : Option Rejection). rejection_status f) is
+    ap (λ (p : Plan). refusal_at s.base a p r body) (patch_plan a l.now r (l.keeps.came ∙ at)).2 ∙ ap (λ (f : Option Rejection). rejection_status f) is
 
 -- The body is whole, and is an update: the CommitPatch is made.
 pub order_leads : {s : Server} {e : Bool} (a : Asked) (k : Work) (r : ℕ) (ops : Vec Op Global) (answer : Answer) (b x : List ℕ) (h : Deeds) (said body : List ℕ) (l : LeadsTo s e (Serving a k) b x h said)
     → l.trail.course ≡ Patching r → IsWholeAt l body → Orders s.base a r body ops.items → (n : Next) → AfterCommitPatch a answer n
     → LeadsTo s e n.phase b x (h ++ (act.CommitPatch ops, answer) ∷ []) (said ++ n.said.items)
-order_leads a k r ops (Status st name) b x h said body l at whole orders n o =
-    replies a k (Did (act.CommitPatch ops) (Status st name) ∷ []) (Patched r ops.items st) body (reply_text st Nothing a.closes) a.closes b x h said l whole
-    (few_still a k b x h said l body (Did (act.CommitPatch ops) (Status st name) ∷ []) whole refl)
+order_leads a k r ops (Status st name number) b x h said body l at whole orders n o =
+    replies a k (Did (act.CommitPatch ops) (Status st name number) ∷ []) (Patched r ops.items st number) body (reply_text st Nothing (Some number) a.closes) a.closes b x h said l whole
+    (few_still a k b x h said l body (Did (act.CommitPatch ops) (Status st name number) ∷ []) whole refl)
     (record {
       suits = (tt, tt);
-      came = ap (λ (c : Course). course_after a c (Did (act.CommitPatch ops) (Status st name))) at;
+      came = ap (λ (c : Course). course_after a c (Did (act.CommitPatch ops) (Status st name number))) at;
       mute = refl;
       own = orders;
       settled = refl;

@@ -1,5 +1,5 @@
 -- Where an upload or a patch is open, the request asks for it, and it may be cancelled.
-use Rattle.std.proofs.Common.{◌≡◌, ◌==◌, ℕ, Bool, true, false, cond, List, [], ◌∷◌, refl, ap, subst}
+use Rattle.std.proofs.Common.{◌≡◌, ◌==◌, ℕ, Bool, true, false, cond, List, [], ◌∷◌, Option, refl, ap, subst}
 use Rattle.gs_model.specs.Triples.{RdfTriple}
 use Rattle.gs_model.specs.declared.refusals.Refusal.TheVariants as why
 use Rattle.gs_event.specs.declared.events.Action.TheVariants as act
@@ -18,38 +18,38 @@ use Rattle.gs_talk.specs.Following.{phase_at, writing_phase, patching_phase}
 
 -- where an upload or a patch is open, the plan is one, and where a Cancel of it is due, the seat may be cancelled
 abbrev pub IsPlanned : Plan → Course → Type 0
-IsPlanned p (Writing r g) = (k : UploadKind) × (p ≡ Uploads k)
-IsPlanned p (Patching r) = (t : Target) × (p ≡ Patches t)
+IsPlanned p (Writing r g) = (k : UploadKind) × (since : Option ℕ) × (p ≡ Uploads k since)
+IsPlanned p (Patching r) = (t : Target) × (since : Option ℕ) × (p ≡ Patches t since)
 IsPlanned p (Lacking c l) = allows (phase_at p c) act.Cancel ≡ true
 IsPlanned p c = Unit {0}
 
 delete_so : (p : Plan) (answer : Answer) → IsPlanned p (at_delete answer)
-delete_so p (Status s name) = tt
+delete_so p (Status s name number) = tt
 delete_so p (Refused why.LastNumber) = tt
 delete_so p other = tt
 
 head_so : (p : Plan) (answer : Answer) → IsPlanned p (at_head answer)
-head_so p (Status s name) = tt
+head_so p (Status s name number) = tt
 head_so p other = tt
 
-begins_so : (p : Plan) (out : List ℕ) (s : ℕ) (v : Bool) → IsPlanned p (cond v (Held [] out false) (Missing s))
-begins_so p out s true = tt
-begins_so p out s false = tt
+begins_so : (p : Plan) (out : List ℕ) (s number : ℕ) (v : Bool) → IsPlanned p (cond v (Held [] out false) (Missing s number))
+begins_so p out s number true = tt
+begins_so p out s number false = tt
 
 pin_so : (p : Plan) (a : Asked) (answer : Answer) → IsPlanned p (at_pin a answer)
-pin_so p a (Pinned s) = begins_so p (lines_head a.reply a.closes) s (s == 200)
+pin_so p a (Pinned s number) = begins_so p (lines_head a.reply number a.closes) s number (s == 200)
 pin_so p a other = tt
 
 first_so : (a : Asked) (p : Plan) (m : Move) → IsPlanned p (first a p m)
-first_so a (Uploads k) (Did (act.Open j) (Opened r)) = (k, refl)
-first_so a (Uploads k) (Did (act.Open j) (Refused why.NoMemory)) = tt
-first_so a (Uploads k) (Did (act.Open j) (Refused why.LastNumber)) = tt
-first_so a (Uploads k) (Did (act.Open j) other) = tt
-first_so a (Patches t) (Did (act.OpenPatch u) (Opened r)) = (t, refl)
-first_so a (Patches t) (Did (act.OpenPatch u) (Refused why.NoMemory)) = tt
-first_so a (Patches t) (Did (act.OpenPatch u) (Refused why.LastNumber)) = tt
-first_so a (Patches t) (Did (act.OpenPatch u) other) = tt
-first_so a (Deletes t) (Did (act.Delete u) answer) = delete_so (Deletes t) answer
+first_so a (Uploads k since) (Did (act.Open j given) (Opened r)) = (k, since, refl)
+first_so a (Uploads k since) (Did (act.Open j given) (Refused why.NoMemory)) = tt
+first_so a (Uploads k since) (Did (act.Open j given) (Refused why.LastNumber)) = tt
+first_so a (Uploads k since) (Did (act.Open j given) other) = tt
+first_so a (Patches t since) (Did (act.OpenPatch u given) (Opened r)) = (t, since, refl)
+first_so a (Patches t since) (Did (act.OpenPatch u given) (Refused why.NoMemory)) = tt
+first_so a (Patches t since) (Did (act.OpenPatch u given) (Refused why.LastNumber)) = tt
+first_so a (Patches t since) (Did (act.OpenPatch u given) other) = tt
+first_so a (Deletes t since) (Did (act.Delete u given) answer) = delete_so (Deletes t since) answer
 first_so a (Looks t) (Did (act.Head u) answer) = head_so (Looks t) answer
 first_so a (Reads t) (Did (act.Pin u) answer) = pin_so (Reads t) a answer
 first_so a NoPlan Short = tt
@@ -57,10 +57,10 @@ first_so a NoPlan (Did action answer) = tt
 first_so a p other = tt
 
 pub drops_upload : (p : Plan) (r : ℕ) (g : List RdfTriple) → IsPlanned p (Writing r g) → allows (writing_phase p r g) act.Cancel ≡ true
-drops_upload p r g k = ap (λ (q : Plan). allows (writing_phase q r g) act.Cancel) k.1
+drops_upload p r g k = ap (λ (q : Plan). allows (writing_phase q r g) act.Cancel) k.2
 
 pub drops_patch : (p : Plan) (r : ℕ) → IsPlanned p (Patching r) → allows (patching_phase p r) act.Cancel ≡ true
-drops_patch p r k = ap (λ (q : Plan). allows (patching_phase q r) act.Cancel) k.1
+drops_patch p r k = ap (λ (q : Plan). allows (patching_phase q r) act.Cancel) k.2
 
 stage_so : (p : Plan) (r : ℕ) (g ts : List RdfTriple) (answer : Answer) → IsPlanned p (Writing r g) → IsPlanned p (at_stage r g ts answer)
 stage_so p r g [] answer k = tt
@@ -69,7 +69,7 @@ stage_so p r g (t ∷ ts) (Refused why.NoMemory) k = drops_upload p r g k
 stage_so p r g (t ∷ ts) other k = tt
 
 commit_so : (p : Plan) (r : ℕ) (g : List RdfTriple) (answer : Answer) → IsPlanned p (Writing r g) → IsPlanned p (course_at_commit r g answer)
-commit_so p r g (Status s name) k = tt
+commit_so p r g (Status s name number) k = tt
 commit_so p r g (Refused why.NoMemory) k = drops_upload p r g k
 commit_so p r g (Refused why.LastNumber) k = drops_upload p r g k
 commit_so p r g other k = tt
@@ -88,7 +88,7 @@ writing_so p r g Short k = drops_upload p r g k
 writing_so p r g other k = tt
 
 order_so : (p : Plan) (r : ℕ) (ops : List Op) (answer : Answer) → IsPlanned p (Patching r) → IsPlanned p (at_commit_patch r ops answer)
-order_so p r ops (Status s name) k = tt
+order_so p r ops (Status s name number) k = tt
 order_so p r ops (Refused why.NoMemory) k = drops_patch p r k
 order_so p r ops (Refused why.LastNumber) k = drops_patch p r k
 order_so p r ops other k = tt
@@ -127,11 +127,11 @@ after_so a (Cutting out) m k = cancelling_so (plan_of a) (Cutting out) (CutShort
 after_so a (Early l) m k = ready_so (plan_of a) (Early l) m
 after_so a (Late l) m k = ready_so (plan_of a) (Late l) m
 after_so a (Dropped r) m k = ready_so (plan_of a) (Dropped r) m
-after_so a (Wrote r g s n) m k = ready_so (plan_of a) (Wrote r g s n) m
-after_so a (Patched r ops s) m k = ready_so (plan_of a) (Patched r ops s) m
-after_so a (Erased s) m k = ready_so (plan_of a) (Erased s) m
-after_so a (Looked s) m k = ready_so (plan_of a) (Looked s) m
-after_so a (Missing s) m k = ready_so (plan_of a) (Missing s) m
+after_so a (Wrote r g s name number) m k = ready_so (plan_of a) (Wrote r g s name number) m
+after_so a (Patched r ops s number) m k = ready_so (plan_of a) (Patched r ops s number) m
+after_so a (Erased s number) m k = ready_so (plan_of a) (Erased s number) m
+after_so a (Looked s number) m k = ready_so (plan_of a) (Looked s number) m
+after_so a (Missing s number) m k = ready_so (plan_of a) (Missing s number) m
 after_so a other m k = tt
 
 course_so : (a : Asked) (c : Course) (ms : List Move) → IsPlanned (plan_of a) c → IsPlanned (plan_of a) (course a c ms)
@@ -139,9 +139,9 @@ course_so a c [] k = k
 course_so a c (m ∷ ms) k = course_so a (course_after a c m) ms (after_so a c m k)
 
 -- moves that open a patch are those of a plan that does
-pub patch_plan : (a : Asked) (ms : List Move) (r : ℕ) → course a Fresh ms ≡ Patching r → (t : Target) × (plan_of a ≡ Patches t)
+pub patch_plan : (a : Asked) (ms : List Move) (r : ℕ) → course a Fresh ms ≡ Patching r → (t : Target) × (since : Option ℕ) × (plan_of a ≡ Patches t since)
 patch_plan a ms r is = subst (λ (c : Course). IsPlanned (plan_of a) c) is (course_so a Fresh ms tt)
 
 -- and those that open an upload are those of one that uploads
-pub upload_plan : (a : Asked) (ms : List Move) (r : ℕ) (g : List RdfTriple) → course a Fresh ms ≡ Writing r g → (k : UploadKind) × (plan_of a ≡ Uploads k)
+pub upload_plan : (a : Asked) (ms : List Move) (r : ℕ) (g : List RdfTriple) → course a Fresh ms ≡ Writing r g → (k : UploadKind) × (since : Option ℕ) × (plan_of a ≡ Uploads k since)
 upload_plan a ms r g is = subst (λ (c : Course). IsPlanned (plan_of a) c) is (course_so a Fresh ms tt)

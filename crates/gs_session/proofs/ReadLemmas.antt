@@ -1,5 +1,5 @@
 -- The steps of a removal, a look and a read.
-use Rattle.std.proofs.Common.{◌≡◌, ◌⊎◌, inl, inr, ◌+◌, ◌≤◌, ◌==◌, arith, ℕ, Bool, true, false, cond, not, List, [], ◌∷◌, ◌++◌, length, refl, sym, ap, subst, ◌∙◌, append-nil, append_assoc}
+use Rattle.std.proofs.Common.{◌≡◌, ◌⊎◌, inl, inr, ◌+◌, ◌≤◌, ◌==◌, arith, ℕ, Bool, true, false, cond, not, List, [], ◌∷◌, ◌++◌, length, refl, sym, ap, subst, ◌∙◌, append-nil, append_assoc, Option, Some, None}
 use Rattle.gs_model.specs.declared.refusals.Refusal.TheVariants as why
 use Rattle.gs_event.specs.declared.events.Action.TheVariants as act
 use Rattle.gs_event.specs.declared.events.Scope.{Scope}
@@ -26,7 +26,7 @@ use Rattle.gs_session.specs.declared.phases.Work.TheVariants as work
 use Rattle.gs_session.specs.declared.outcomes.Next.{Next}
 use Rattle.gs_session.specs.Trails.{Trail, WorkStands}
 use Rattle.gs_session.specs.Leads.{LeadsTo}
-use Rattle.gs_session.specs.Outcomes.{Says, Stops, Replies, RepliesFound, BeginsRead, after_reply, AfterDelete, AfterLook, AfterPin, AfterPiece}
+use Rattle.gs_session.specs.Outcomes.{Says, Stops, RepliesCounted, RepliesFound, BeginsRead, after_reply, AfterDelete, AfterLook, AfterPin, AfterPiece}
 use Rattle.gs_session.proofs.MoveLemmas.{moved, answers}
 use Rattle.gs_session.proofs.ReplyLemmas.{replies, broke, to_next}
 
@@ -52,58 +52,59 @@ greeted_skip a before at none =
 pub first_is : (a : Asked) (before : Course) (p : Plan) (m : Move) → before ≡ Fresh → plan_of a ≡ p → course_after a before m ≡ first a p m
 first_is a before p m at is = ap (λ (c : Course). course_after a c m) at ∙ ap (λ (q : Plan). first a q m) is
 
-pub delete_leads : {s : Server} {e : Bool} (a : Asked) (transfer : Transfer) (t : Target) (answer : Answer) (b x : List ℕ) (h : Deeds) (said body : List ℕ) (l : LeadsTo s e (Serving a (Skipping transfer)) b x h said)
-    → plan_of a ≡ Deletes t → IsWholeAt l body → (n : Next) → AfterDelete a answer n → LeadsTo s e n.phase b x (h ++ (act.Delete t, answer) ∷ []) (said ++ n.said.items)
-delete_leads a transfer t (Status st name) b x h said body l is whole n o =
-    replies a (Skipping transfer) (Did (act.Delete t) (Status st name) ∷ []) (Erased st) body (reply_text st Nothing a.closes) a.closes b x h said l whole
-    (few_still a (Skipping transfer) b x h said l body (Did (act.Delete t) (Status st name) ∷ []) whole refl)
+pub delete_leads : {s : Server} {e : Bool} (a : Asked) (transfer : Transfer) (t : Target) (since : Option ℕ) (answer : Answer) (b x : List ℕ) (h : Deeds) (said body : List ℕ) (l : LeadsTo s e (Serving a (Skipping transfer)) b x h said)
+    → plan_of a ≡ Deletes t since → IsWholeAt l body → (n : Next) → AfterDelete a answer n → LeadsTo s e n.phase b x (h ++ (act.Delete t since, answer) ∷ []) (said ++ n.said.items)
+delete_leads a transfer t since (Status st name number) b x h said body l is whole n o =
+    replies a (Skipping transfer) (Did (act.Delete t since) (Status st name number) ∷ []) (Erased st number) body (reply_text st Nothing (Some number) a.closes) a.closes b x h said l whole
+    (few_still a (Skipping transfer) b x h said l body (Did (act.Delete t since) (Status st name number) ∷ []) whole refl)
     (record {
       suits = (is, tt);
-      came = first_is a l.trail.course (Deletes t) (Did (act.Delete t) (Status st name)) l.keeps.stands.1 is;
+      came = first_is a l.trail.course (Deletes t since) (Did (act.Delete t since) (Status st name number)) l.keeps.stands.1 is;
       mute = refl;
       own = tt;
       settled = refl;
       greeted = greeted_skip a l.trail.course l.keeps.stands.1 l.keeps.stands.2;
     }) n o
-delete_leads {s} a transfer t (Refused why.LastNumber) b x h said body l is whole n o =
-    replies a (Skipping transfer) (Did (act.Delete t) (Refused why.LastNumber) ∷ []) (Late Numbers) body (reply_text 507 Nothing a.closes) a.closes b x h said l whole
-    (few_still a (Skipping transfer) b x h said l body (Did (act.Delete t) (Refused why.LastNumber) ∷ []) whole refl)
+delete_leads {s} a transfer t since (Refused why.LastNumber) b x h said body l is whole n o =
+    replies a (Skipping transfer) (Did (act.Delete t since) (Refused why.LastNumber) ∷ []) (Late Numbers) body (reply_text 507 Nothing None a.closes) a.closes b x h said l whole
+    (few_still a (Skipping transfer) b x h said l body (Did (act.Delete t since) (Refused why.LastNumber) ∷ []) whole refl)
     (record {
       suits = (is, tt);
-      came = first_is a l.trail.course (Deletes t) (Did (act.Delete t) (Refused why.LastNumber)) l.keeps.stands.1 is;
+      came = first_is a l.trail.course (Deletes t since) (Did (act.Delete t since) (Refused why.LastNumber)) l.keeps.stands.1 is;
       mute = refl;
       own = tt;
       settled = ((0, ap (λ (p : Plan). refusal_at s.base a p 0 body) is), refl);
       greeted = greeted_skip a l.trail.course l.keeps.stands.1 l.keeps.stands.2;
     }) n o
-delete_leads a transfer t answer b x h said body l is whole n o =
-    broke a (Skipping transfer) (Did (act.Delete t) answer) Fresh b b x h said l (is, tt) l.keeps.stands.1 (first_is a Fresh (Deletes t) (Did (act.Delete t) answer) refl is) (λ o. tt) (no_more a (Skipping transfer) b x h said l) n o
+delete_leads a transfer t since answer b x h said body l is whole n o =
+    broke a (Skipping transfer) (Did (act.Delete t since) answer) Fresh b b x h said l (is, tt) l.keeps.stands.1 (first_is a Fresh (Deletes t since) (Did (act.Delete t since) answer) refl is) (λ o. tt) (no_more a (Skipping transfer) b x h said l) n o
 
 -- a look: the head of a read, or a reply that there is no graph
 
-look_said : (n : Next) (a : Asked) (st : ℕ) (v : Bool) → cond v (RepliesFound n a) (Replies n st a.closes)
-    → Says n (after_reply a.closes) (cond v (lines_head a.reply a.closes) (reply_text st Nothing a.closes)) ⊎ Stops n
-look_said n a st true o = o
-look_said n a st false o = o
+look_said : (n : Next) (a : Asked) (st number : ℕ) (v : Bool) → cond v (RepliesFound n a number) (RepliesCounted n st number a.closes)
+    → Says n (after_reply a.closes) (cond v (lines_head a.reply number a.closes) (reply_text st Nothing (Some number) a.closes)) ⊎ Stops n
+look_said n a st number true o = o
+look_said n a st number false o = o
 
-look_settled : (a : Asked) (st : ℕ) (v : Bool)
-    → ◌≡◌ {A = Said} (cond v (lines_head a.reply a.closes) (reply_text st Nothing a.closes), not a.closes) (cond v (lines_head a.reply a.closes, not a.closes) (reply_text st Nothing a.closes, not a.closes))
-look_settled a st true = refl
-look_settled a st false = refl
+look_settled : (a : Asked) (st number : ℕ) (v : Bool)
+    → ◌≡◌ {A = Said} (cond v (lines_head a.reply number a.closes) (reply_text st Nothing (Some number) a.closes), not a.closes)
+    (cond v (lines_head a.reply number a.closes, not a.closes) (reply_text st Nothing (Some number) a.closes, not a.closes))
+look_settled a st number true = refl
+look_settled a st number false = refl
 
 pub look_leads : {s : Server} {e : Bool} (a : Asked) (transfer : Transfer) (t : Scope) (answer : Answer) (b x : List ℕ) (h : Deeds) (said body : List ℕ) (l : LeadsTo s e (Serving a (Skipping transfer)) b x h said)
     → plan_of a ≡ Looks t → IsWholeAt l body → (n : Next) → AfterLook a answer n → LeadsTo s e n.phase b x (h ++ (act.Head t, answer) ∷ []) (said ++ n.said.items)
-look_leads a transfer t (Status st name) b x h said body l is whole n o =
-    replies a (Skipping transfer) (Did (act.Head t) (Status st name) ∷ []) (Looked st) body (cond (st == 200) (lines_head a.reply a.closes) (reply_text st Nothing a.closes)) a.closes b x h said l whole
-    (few_still a (Skipping transfer) b x h said l body (Did (act.Head t) (Status st name) ∷ []) whole refl)
+look_leads a transfer t (Status st name number) b x h said body l is whole n o =
+    replies a (Skipping transfer) (Did (act.Head t) (Status st name number) ∷ []) (Looked st number) body (cond (st == 200) (lines_head a.reply number a.closes) (reply_text st Nothing (Some number) a.closes)) a.closes b x h said l whole
+    (few_still a (Skipping transfer) b x h said l body (Did (act.Head t) (Status st name number) ∷ []) whole refl)
     (record {
       suits = (is, tt);
-      came = first_is a l.trail.course (Looks t) (Did (act.Head t) (Status st name)) l.keeps.stands.1 is;
+      came = first_is a l.trail.course (Looks t) (Did (act.Head t) (Status st name number)) l.keeps.stands.1 is;
       mute = refl;
       own = tt;
-      settled = look_settled a st (st == 200);
+      settled = look_settled a st number (st == 200);
       greeted = greeted_skip a l.trail.course l.keeps.stands.1 l.keeps.stands.2;
-    }) n (look_said n a st (st == 200) o)
+    }) n (look_said n a st number (st == 200) o)
 look_leads a transfer t answer b x h said body l is whole n o =
     broke a (Skipping transfer) (Did (act.Head t) answer) Fresh b b x h said l (is, tt) l.keeps.stands.1 (first_is a Fresh (Looks t) (Did (act.Head t) answer) refl is) (λ o. tt) (no_more a (Skipping transfer) b x h said l) n o
 
@@ -127,29 +128,29 @@ pub reads_on : {s : Server} {e : Bool} (a : Asked) (k k2 : Work) (ms : List Move
 reads_on a k k2 ms c u b x h said body l whole suit f g none j n y =
     to_next n (Serving a k2) u b x (h ++ deeds_of ms) said y (reads_at a k k2 ms c u b x h said body l whole suit f g none j)
 
-begun : {s : Server} {e : Bool} (a : Asked) (transfer : Transfer) (t : Scope) (st : ℕ) (b x : List ℕ) (h : Deeds) (said body : List ℕ) (l : LeadsTo s e (Serving a (Skipping transfer)) b x h said)
-    → plan_of a ≡ Reads t → IsWholeAt l body → course_after a l.trail.course (Did (act.Pin t) (Pinned st)) ≡ Held [] (lines_head a.reply a.closes) false → (n : Next) → BeginsRead n a
-    → LeadsTo s e n.phase b x (h ++ (act.Pin t, Pinned st) ∷ []) (said ++ n.said.items)
-begun a transfer t st b x h said body l is whole f n (inl y) =
-    reads_on a (Skipping transfer) Sending (Did (act.Pin t) (Pinned st) ∷ []) (Held [] (lines_head a.reply a.closes) false) (lines_head a.reply a.closes) b x h said body l whole (is, tt) f
-    (ap (λ z. z ++ lines_head a.reply a.closes) (greeted_skip a l.trail.course l.keeps.stands.1 l.keeps.stands.2)) refl ([], lines_head a.reply a.closes, body, refl, λ z. refl) n y
-begun a transfer t st b x h said body l is whole f n (inr y) =
-    reads_on a (Skipping transfer) work.Cutting (Did (act.Pin t) (Pinned st) ∷ Short ∷ []) (Cutting []) [] b x h said body l whole (is, tt) (ap (λ (c : Course). course_after a c Short) f)
+begun : {s : Server} {e : Bool} (a : Asked) (transfer : Transfer) (t : Scope) (st number : ℕ) (b x : List ℕ) (h : Deeds) (said body : List ℕ) (l : LeadsTo s e (Serving a (Skipping transfer)) b x h said)
+    → plan_of a ≡ Reads t → IsWholeAt l body → course_after a l.trail.course (Did (act.Pin t) (Pinned st number)) ≡ Held [] (lines_head a.reply number a.closes) false → (n : Next) → BeginsRead n a number
+    → LeadsTo s e n.phase b x (h ++ (act.Pin t, Pinned st number) ∷ []) (said ++ n.said.items)
+begun a transfer t st number b x h said body l is whole f n (inl y) =
+    reads_on a (Skipping transfer) Sending (Did (act.Pin t) (Pinned st number) ∷ []) (Held [] (lines_head a.reply number a.closes) false) (lines_head a.reply number a.closes) b x h said body l whole (is, tt) f
+    (ap (λ z. z ++ lines_head a.reply number a.closes) (greeted_skip a l.trail.course l.keeps.stands.1 l.keeps.stands.2)) refl ([], lines_head a.reply number a.closes, body, refl, λ z. refl) n y
+begun a transfer t st number b x h said body l is whole f n (inr y) =
+    reads_on a (Skipping transfer) work.Cutting (Did (act.Pin t) (Pinned st number) ∷ Short ∷ []) (Cutting []) [] b x h said body l whole (is, tt) (ap (λ (c : Course). course_after a c Short) f)
     (ap (λ z. z ++ []) (greeted_skip a l.trail.course l.keeps.stands.1 l.keeps.stands.2)) refl ([], body, refl, λ z. refl) n y
 
-pinned : {s : Server} {e : Bool} (a : Asked) (transfer : Transfer) (t : Scope) (st : ℕ) (b x : List ℕ) (h : Deeds) (said body : List ℕ) (l : LeadsTo s e (Serving a (Skipping transfer)) b x h said)
-    → plan_of a ≡ Reads t → IsWholeAt l body → (v : Bool) → course_after a l.trail.course (Did (act.Pin t) (Pinned st)) ≡ cond v (Held [] (lines_head a.reply a.closes) false) (Missing st)
-    → (n : Next) → cond v (BeginsRead n a) (Replies n st a.closes) → LeadsTo s e n.phase b x (h ++ (act.Pin t, Pinned st) ∷ []) (said ++ n.said.items)
-pinned a transfer t st b x h said body l is whole true f n o = begun a transfer t st b x h said body l is whole f n o
-pinned a transfer t st b x h said body l is whole false f n o =
-    replies a (Skipping transfer) (Did (act.Pin t) (Pinned st) ∷ []) (Missing st) body (reply_text st Nothing a.closes) a.closes b x h said l whole
-    (few_still a (Skipping transfer) b x h said l body (Did (act.Pin t) (Pinned st) ∷ []) whole refl)
+pinned : {s : Server} {e : Bool} (a : Asked) (transfer : Transfer) (t : Scope) (st number : ℕ) (b x : List ℕ) (h : Deeds) (said body : List ℕ) (l : LeadsTo s e (Serving a (Skipping transfer)) b x h said)
+    → plan_of a ≡ Reads t → IsWholeAt l body → (v : Bool) → course_after a l.trail.course (Did (act.Pin t) (Pinned st number)) ≡ cond v (Held [] (lines_head a.reply number a.closes) false) (Missing st number)
+    → (n : Next) → cond v (BeginsRead n a number) (RepliesCounted n st number a.closes) → LeadsTo s e n.phase b x (h ++ (act.Pin t, Pinned st number) ∷ []) (said ++ n.said.items)
+pinned a transfer t st number b x h said body l is whole true f n o = begun a transfer t st number b x h said body l is whole f n o
+pinned a transfer t st number b x h said body l is whole false f n o =
+    replies a (Skipping transfer) (Did (act.Pin t) (Pinned st number) ∷ []) (Missing st number) body (reply_text st Nothing (Some number) a.closes) a.closes b x h said l whole
+    (few_still a (Skipping transfer) b x h said l body (Did (act.Pin t) (Pinned st number) ∷ []) whole refl)
     (record { suits = (is, tt); came = f; mute = refl; own = tt; settled = refl; greeted = greeted_skip a l.trail.course l.keeps.stands.1 l.keeps.stands.2 }) n o
 
 pub pin_leads : {s : Server} {e : Bool} (a : Asked) (transfer : Transfer) (t : Scope) (answer : Answer) (b x : List ℕ) (h : Deeds) (said body : List ℕ) (l : LeadsTo s e (Serving a (Skipping transfer)) b x h said)
     → plan_of a ≡ Reads t → IsWholeAt l body → (n : Next) → AfterPin a answer n → LeadsTo s e n.phase b x (h ++ (act.Pin t, answer) ∷ []) (said ++ n.said.items)
-pin_leads a transfer t (Pinned st) b x h said body l is whole n o =
-    pinned a transfer t st b x h said body l is whole (st == 200) (first_is a l.trail.course (Reads t) (Did (act.Pin t) (Pinned st)) l.keeps.stands.1 is) n o
+pin_leads a transfer t (Pinned st number) b x h said body l is whole n o =
+    pinned a transfer t st number b x h said body l is whole (st == 200) (first_is a l.trail.course (Reads t) (Did (act.Pin t) (Pinned st number)) l.keeps.stands.1 is) n o
 pin_leads a transfer t answer b x h said body l is whole n o =
     broke a (Skipping transfer) (Did (act.Pin t) answer) Fresh b b x h said l (is, tt) l.keeps.stands.1 (first_is a Fresh (Reads t) (Did (act.Pin t) answer) refl is) (λ o. tt) (no_more a (Skipping transfer) b x h said l) n o
 

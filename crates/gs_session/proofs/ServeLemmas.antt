@@ -18,7 +18,8 @@ use Rattle.gs_session.specs.declared.setups.Setup.{Setup}
 use Rattle.gs_session.specs.Leads.{MayCome}
 use Rattle.gs_session.specs.Steps.{server_of}
 use Rattle.gs_session.specs.Turns.{Leads, MakesTurn, HasEnded, Ran, Quits}
-use Rattle.gs_session.specs.Connections.{Connection, Goes, IsFinished, Quit, AsksRightly, ReadsInput, Loses}
+use Rattle.gs_session.specs.Connections.{Connection, IsFinished, Quit, AsksRightly}
+use Rattle.gs_session.specs.Rounds.{Goes, ReadsInput, Loses}
 use Rattle.gs_session.proofs.RestLemmas.{may_none}
 
 ran_more : {D : Type 0} (gives : D → Event → Answer → D → Type 0) (seat : ℕ) (a b c : D) (d f : Deeds) → Ran gives seat a d b → Ran gives seat b f c → Ran gives seat a (d ++ f) c

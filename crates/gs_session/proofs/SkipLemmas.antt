@@ -1,5 +1,5 @@
 -- The steps of a request whose body is dropped.
-use Rattle.std.proofs.Common.{◌≡◌, ◌⊎◌, inl, inr, ◌+◌, ◌*◌, ◌≤◌, ◌<◌, arith, ℕ, zero, suc, Bool, true, false, List, [], ◌∷◌, ◌++◌, length, take, drop, refl, sym, ap, subst, ◌∙◌, append-nil, length-append, length-drop}
+use Rattle.std.proofs.Common.{◌≡◌, ◌⊎◌, inl, inr, ◌+◌, ◌*◌, ◌≤◌, ◌<◌, arith, ℕ, zero, suc, Bool, true, false, List, [], ◌∷◌, ◌++◌, length, take, drop, refl, sym, ap, subst, ◌∙◌, append-nil, length-append, length-drop, Option, None}
 use Rattle.gs_event.specs.declared.events.Event.{Event}
 use Rattle.gs_event.specs.declared.events.Action.TheVariants as act
 use Rattle.gs_event.specs.declared.events.Scope.{Scope}
@@ -44,9 +44,9 @@ use Rattle.gs_session.proofs.UploadLemmas.{part_trail, seam}
 
 -- without memory no plan begins
 pub first_short : (a : Asked) (p : Plan) → first a p Short ≡ Early Memory
-first_short a (Uploads k) = refl
-first_short a (Patches t) = refl
-first_short a (Deletes t) = refl
+first_short a (Uploads k since) = refl
+first_short a (Patches t since) = refl
+first_short a (Deletes t since) = refl
 first_short a (Looks t) = refl
 first_short a (Reads t) = refl
 first_short a NoPlan = refl
@@ -100,9 +100,9 @@ stops_early {s} {e} a k b x h said l at n y =
 pub early_leads : {s : Server} {e : Bool} (a : Asked) (k : Work) (b x : List ℕ) (h : Deeds) (said : List ℕ) (l : LeadsTo s e (Serving a k) b x h said)
     → l.trail.course ≡ Fresh → (n : Next) → Replies n 503 true → LeadsTo s e n.phase b x h (said ++ n.said.items)
 early_leads {s} {e} a k b x h said l at n (inl y) =
-    to_next n phase.Over (reply_text 503 Nothing true) b x h said y
-    (subst (λ (d : Deeds). LeadsTo s e phase.Over b x d (said ++ reply_text 503 Nothing true)) (append-nil h)
-    (ends_early a k (Short ∷ []) (Early Memory) (reply_text 503 Nothing true) b x h said l at tt (first_short a (plan_of a)) refl refl (λ o. tt) (λ o. refl)))
+    to_next n phase.Over (reply_text 503 Nothing None true) b x h said y
+    (subst (λ (d : Deeds). LeadsTo s e phase.Over b x d (said ++ reply_text 503 Nothing None true)) (append-nil h)
+    (ends_early a k (Short ∷ []) (Early Memory) (reply_text 503 Nothing None true) b x h said l at tt (first_short a (plan_of a)) refl refl (λ o. tt) (λ o. refl)))
 early_leads a k b x h said l at n (inr y) = stops_early a k b x h said l at n y
 
 -- steps
@@ -122,11 +122,11 @@ skip_whole : {s : Server} {e : Bool} (a : Asked) (t : Transfer) (b x : List ℕ)
 skip_whole a t b x h said l over y = l.keeps.stands.3 (b ++ y) ∙ ap (λ (c : BodyCut). with_data l.keeps.stands.0 c) (over y)
 
 -- A graph is removed, once the body is over.
-pub delete_steps : {D : Type 0} (gives : D → Event → Answer → D → Type 0) (setup : Setup) (e : Bool) (a : Asked) (t : Transfer) (u : Target) (b : List ℕ) (old new : D) (n : Next)
-    → ((y : List ℕ) → cut_of t (b ++ y) ≡ ends (cut.Whole (b ++ y))) → plan_of a ≡ Deletes u → Does gives setup.seat old (act.Delete u) new (λ answer. AfterDelete a answer n)
+pub delete_steps : {D : Type 0} (gives : D → Event → Answer → D → Type 0) (setup : Setup) (e : Bool) (a : Asked) (t : Transfer) (u : Target) (since : Option ℕ) (b : List ℕ) (old new : D) (n : Next)
+    → ((y : List ℕ) → cut_of t (b ++ y) ≡ ends (cut.Whole (b ++ y))) → plan_of a ≡ Deletes u since → Does gives setup.seat old (act.Delete u since) new (λ answer. AfterDelete a answer n)
     → DoesStep gives setup e (Serving a (Skipping t)) b old (Made n) b new
-delete_steps gives setup e a t u b old new n over is o =
-    (act.Delete u, o.0, o.1, λ x h said l. delete_leads a t u o.0 b x h said (l.keeps.stands.0 ++ []) l is (skip_whole a t b x h said l over) n o.2)
+delete_steps gives setup e a t u since b old new n over is o =
+    (act.Delete u since, o.0, o.1, λ x h said l. delete_leads a t u since o.0 b x h said (l.keeps.stands.0 ++ []) l is (skip_whole a t b x h said l over) n o.2)
 
 -- A graph is looked at.
 pub look_steps : {D : Type 0} (gives : D → Event → Answer → D → Type 0) (setup : Setup) (e : Bool) (a : Asked) (t : Transfer) (u : Scope) (b : List ℕ) (old new : D) (n : Next)
@@ -146,7 +146,7 @@ pin_steps gives setup e a t u b old new n over is o =
 pub early_steps : {D : Type 0} (gives : D → Event → Answer → D → Type 0) (setup : Setup) (e : Bool) (a : Asked) (t : Transfer) (b : List ℕ) (old : D) (n : Next)
     → Replies n 503 true → DoesStep gives setup e (Serving a (Skipping t)) b old (Silent n) b old
 early_steps gives setup e a t b old n o =
-    (refl, (over_less n a t b (closed n (reply_text 503 Nothing true) o), λ x h said l. early_leads a (Skipping t) b x h said l l.keeps.stands.1 n o))
+    (refl, (over_less n a t b (closed n (reply_text 503 Nothing None true) o), λ x h said l. early_leads a (Skipping t) b x h said l l.keeps.stands.1 n o))
 
 -- a body so far has no data before its bytes
 none_from : (limit : ℕ) (s : TransferState) → length (cut_from limit s []).bytes ≡ 0
@@ -199,19 +199,19 @@ skip_steps gives setup e a t t2 bytes b c count old n some within p y is =
 -- The transfer of a body that is dropped has a fault: the reply says so.
 pub skip_fault : {D : Type 0} (gives : D → Event → Answer → D → Type 0) (setup : Setup) (e : Bool) (a : Asked) (t : Transfer) (b : List ℕ) (st : ℕ) (old : D) (n : Next)
     → ((y : List ℕ) → cut_of t (b ++ y) ≡ ends (cut.Faulty st)) → Replies n st true → DoesStep gives setup e (Serving a (Skipping t)) b old (Silent n) b old
-skip_fault gives setup e a t b st old n faulty o = (refl, (over_less n a t b (closed n (reply_text st Nothing true) o), λ x h said l. go x h said l o))
+skip_fault gives setup e a t b st old n faulty o = (refl, (over_less n a t b (closed n (reply_text st Nothing None true) o), λ x h said l. go x h said l o))
   where
     go : (x : List ℕ) (h : Deeds) (said : List ℕ) → LeadsTo (server_of setup) e (Serving a (Skipping t)) b x h said → Replies n st true → LeadsTo (server_of setup) e n.phase b x h (said ++ n.said.items)
     go x h said l (inl y) =
-        to_next n phase.Over (reply_text st Nothing true) b x h said y
-        (subst (λ (d : Deeds). LeadsTo (server_of setup) e phase.Over b x d (said ++ reply_text st Nothing true)) (append-nil h)
-        (answers_fault a (Skipping t) [] (l.keeps.stands.0 ++ []) st (reply_text st Nothing true) (reply_text st Nothing true) b b x h said l
+        to_next n phase.Over (reply_text st Nothing None true) b x h said y
+        (subst (λ (d : Deeds). LeadsTo (server_of setup) e phase.Over b x d (said ++ reply_text st Nothing None true)) (append-nil h)
+        (answers_fault a (Skipping t) [] (l.keeps.stands.0 ++ []) st (reply_text st Nothing None true) (reply_text st Nothing None true) b b x h said l
         (λ y. l.keeps.stands.3 (b ++ y) ∙ ap (λ (c : BodyCut). with_data l.keeps.stands.0 c) (faulty y)) tt
         (subst (λ (c : Course). IsOwn setup.site a (Faulty (l.keeps.stands.0 ++ []) st) c) (sym l.keeps.stands.1) tt)
         (omega (arith, few_came l.trail l.keeps.stands.0 t (stages_in l.now) l.keeps.stands.3 l.keeps.few, length-append l.keeps.stands.0 []))
-        (subst (λ (c : Course). Settles setup.site a (Faulty (l.keeps.stands.0 ++ []) st) c (reply_text st Nothing true, false)) (sym l.keeps.stands.1) (l.keeps.stands.2, refl))
-        (ap (λ (c : Course). said_so_far a c ++ reply_text st Nothing true) l.keeps.stands.1 ∙ ap (λ z. z ++ reply_text st Nothing true) (append-nil (greeting a Fresh))
-        ∙ ap (λ (c : Course). greeting a c ++ reply_text st Nothing true) (sym l.keeps.stands.1))))
+        (subst (λ (c : Course). Settles setup.site a (Faulty (l.keeps.stands.0 ++ []) st) c (reply_text st Nothing None true, false)) (sym l.keeps.stands.1) (l.keeps.stands.2, refl))
+        (ap (λ (c : Course). said_so_far a c ++ reply_text st Nothing None true) l.keeps.stands.1 ∙ ap (λ z. z ++ reply_text st Nothing None true) (append-nil (greeting a Fresh))
+        ∙ ap (λ (c : Course). greeting a c ++ reply_text st Nothing None true) (sym l.keeps.stands.1))))
     go x h said l (inr y) = stops_early a (Skipping t) b x h said l l.keeps.stands.1 n y
 
 -- the input ended within a body that is dropped

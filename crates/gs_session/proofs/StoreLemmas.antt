@@ -28,8 +28,8 @@ use Rattle.gs_session.proofs.TalkLemmas.{talk_allowed}
 -- what a store shows of a seat, without what a read has left
 abbrev pub seat_phase : SeatView → SeatPhase
 seat_phase Idle = Idle
-seat_phase (Writing k r g) = Writing k r g
-seat_phase (Patching t r) = Patching t r
+seat_phase (Writing k r g since) = Writing k r g since
+seat_phase (Patching t r since) = Patching t r since
 seat_phase (Reading left) = Reading tt
 
 pinned_phase : (b : Bool) (left : List (List ℕ)) → seat_phase (cond b (Reading left) Idle) ≡ cond b (Reading tt) Idle
@@ -42,37 +42,37 @@ given_phase false left = refl
 
 -- the table of phases says the same of what is shown and of what was done
 same_phase : (w : Totals) (v : SeatView) (action : Action) (answer : Answer) → seat_phase (next_phase w v action answer) ≡ phase_then (seat_phase v) (action, answer)
-same_phase w Idle (Open k) (Opened r) = refl
-same_phase w Idle (OpenPatch t) (Opened r) = refl
-same_phase w Idle (Pin t) (Pinned s) = pinned_phase (nat_eq s 200) _
-same_phase w (Writing k r g) (Stage ts) Staged = refl
-same_phase w (Writing k r g) Commit (Status s name) = refl
-same_phase w (Writing k r g) Cancel Cancelled = refl
-same_phase w (Patching t r) (CommitPatch ops) (Status s name) = refl
-same_phase w (Patching t r) Cancel Cancelled = refl
+same_phase w Idle (Open k since) (Opened r) = refl
+same_phase w Idle (OpenPatch t since) (Opened r) = refl
+same_phase w Idle (Pin t) (Pinned s number) = pinned_phase (nat_eq s 200) _
+same_phase w (Writing k r g since) (Stage ts) Staged = refl
+same_phase w (Writing k r g since) Commit (Status s name number) = refl
+same_phase w (Writing k r g since) Cancel Cancelled = refl
+same_phase w (Patching t r since) (CommitPatch ops) (Status s name number) = refl
+same_phase w (Patching t r since) Cancel Cancelled = refl
 same_phase w (Reading left) (Piece n) (Lines b end) = given_phase end _
 same_phase w (Reading left) Cancel Cancelled = refl
 same_phase w v action answer = refl
 
 same_allows : (v : SeatView) (action : Action) → allows (seat_phase v) action ≡ allows v action
 same_allows Idle action = refl
-same_allows (Writing k r g) action = refl
-same_allows (Patching t r) action = refl
+same_allows (Writing k r g since) action = refl
+same_allows (Patching t r since) action = refl
 same_allows (Reading left) action = refl
 
 -- An action is out of its phase only where that does not allow it, and a seat that is there is not missing.
 refused_fits : (w : Totals) (v : SeatView) (action : Action)
     → (FitsSeat w v action (Refused why.WrongPhase) → allows v action ≡ false) × (FitsSeat w v action (Refused why.BadSeat) → ⊥)
-refused_fits w Idle (Open k) = (λ f. f, λ f. f)
-refused_fits w Idle (OpenPatch t) = (λ f. f, λ f. f)
-refused_fits w Idle (Delete t) = (λ f. f, λ f. f)
+refused_fits w Idle (Open k since) = (λ f. f, λ f. f)
+refused_fits w Idle (OpenPatch t since) = (λ f. f, λ f. f)
+refused_fits w Idle (Delete t since) = (λ f. f, λ f. f)
 refused_fits w Idle (Head t) = (λ f. f, λ f. f)
 refused_fits w Idle (Pin t) = (λ f. f, λ f. f)
-refused_fits w (Writing k r g) (Stage ts) = (λ f. f, λ f. f)
-refused_fits w (Writing k r g) Commit = (λ f. f, λ f. f)
-refused_fits w (Writing k r g) Cancel = (λ f. f, λ f. f)
-refused_fits w (Patching t r) (CommitPatch ops) = (λ f. f, λ f. f)
-refused_fits w (Patching t r) Cancel = (λ f. f, λ f. f)
+refused_fits w (Writing k r g since) (Stage ts) = (λ f. f, λ f. f)
+refused_fits w (Writing k r g since) Commit = (λ f. f, λ f. f)
+refused_fits w (Writing k r g since) Cancel = (λ f. f, λ f. f)
+refused_fits w (Patching t r since) (CommitPatch ops) = (λ f. f, λ f. f)
+refused_fits w (Patching t r since) Cancel = (λ f. f, λ f. f)
 refused_fits w (Reading left) (Piece n) = (λ f. f, λ f. f)
 refused_fits w (Reading left) Cancel = (λ f. f, λ f. f)
 refused_fits w v action = (λ f. f, λ f. f)
@@ -154,8 +154,8 @@ stores_fit s ended seat first last x h said rest few idle ran k = (talk_fits s e
 -- a seat that is shown as idle is
 pub idle_view : (v : SeatView) → seat_phase v ≡ Idle → v ≡ Idle
 idle_view Idle e = refl
-idle_view (Writing k r g) e = cc
-idle_view (Patching t r) e = cc
+idle_view (Writing k r g since) e = cc
+idle_view (Patching t r since) e = cc
 idle_view (Reading left) e = cc
 
 -- and shows its seat as idle afterwards

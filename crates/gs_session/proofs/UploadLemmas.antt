@@ -7,7 +7,6 @@ use Rattle.gs_body.specs.Bodies.{Meaning}
 use Rattle.gs_event.specs.declared.events.Action.TheVariants as act
 use Rattle.gs_event.specs.declared.answers.Answer.{Answer}
 use Rattle.gs_event.specs.declared.answers.Answer.TheVariants.{Staged, Refused}
-use Rattle.gs_event.specs.declared.events.UploadKind.{UploadKind}
 use Rattle.gs_transfer.specs.Cuts.{BodyCut, with_data}
 use Rattle.gs_transfer.specs.Views.{cut_of}
 use Rattle.gs_transfer.specs.declared.places.Transfer.{Transfer}
@@ -17,7 +16,6 @@ use Rattle.gs_upload.specs.Languages.{meaning_in}
 use Rattle.gs_upload.specs.Readers.{IsFedText}
 use Rattle.gs_verdict.specs.declared.verdicts.Asked.{Asked}
 use Rattle.gs_stream.specs.Requests.{by_body, requests}
-use Rattle.gs_talk.specs.Plans.{Uploads, plan_of}
 use Rattle.gs_talk.specs.Bodies.{document_language, text_base}
 use Rattle.gs_talk.specs.Courses.{Did, Course, Writing, Lacking, Memory}
 use Rattle.gs_talk.specs.Moves.{course_after, at_stage}
@@ -77,10 +75,6 @@ reads_on {s} a k k2 t t2 bytes b x n h said l p r =
         few = omega (arith, g.few, length-append g.done bytes);
       };
     }) (λ i. i)
-
--- no upload is suited by another plan
-abbrev pub IsUpload : Asked → Type 0
-IsUpload a = (k : UploadKind) × (plan_of a ≡ Uploads k)
 
 -- What came was read, and what it gave was staged.
 pub stage_leads : {s : Server} {e : Bool} (a : Asked) (k k2 : Reading TextReader) (t t2 : Transfer) (bytes b x : List ℕ) (n : ℕ) (h : Deeds) (said : List ℕ) (l : LeadsTo s e (Serving a (Uploading k t)) b x h said)

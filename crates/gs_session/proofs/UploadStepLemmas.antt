@@ -205,7 +205,7 @@ end_faulty gives setup e a k t b fault old new m over first d =
     let is = upload_plan a l.now g.request g.staged (l.keeps.came ∙ g.stands) in
     let means = meaning_in (document_language a.body) (text_base setup.site a.graph) g.request in
     drop_leads a (Uploading k t) (Writing g.request g.staged) g.request 400 answer b x h said g.done l g.stands (open_writing a g.request g.staged) (whole_at a k t b x h said l over)
-    (ap (λ (p : Plan). refusal_at setup.site a p g.request g.done) is.1 ∙ refused_body fault (means g.done) (first means g.done g.staged g.fed)) m o) d
+    (ap (λ (p : Plan). refusal_at setup.site a p g.request g.done) is.2 ∙ refused_body fault (means g.done) (first means g.done g.staged g.fed)) m o) d
 
 -- The transfer of the body has a fault: the upload is cancelled, and the reply says so.
 pub transfer_faulty : {D : Type 0} (gives : D → Event → Answer → D → Type 0) (setup : Setup) (e : Bool) (a : Asked) (k : Reading TextReader) (t : Transfer) (b : List ℕ) (st : ℕ) (old new : D) (m : Next)

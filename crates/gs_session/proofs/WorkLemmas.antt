@@ -33,7 +33,7 @@ commits gives setup e a b old new n d =
     let g = l.keeps.stands in
     let is = upload_plan a l.now g.0 g.2 (l.keeps.came ∙ g.3) in
     commit_leads a Committing g.0 g.2 answer b x h said g.1 l g.3 (λ y. g.5 (b ++ y)) g.4
-    (ap (λ (p : Plan). refusal_at setup.site a p g.0 g.1) is.1 ∙ ap fault_status g.4.0) n o) d
+    (ap (λ (p : Plan). refusal_at setup.site a p g.0 g.1) is.2 ∙ ap fault_status g.4.0) n o) d
 
 -- There was no more of something: what is open is cancelled.
 pub fails : {D : Type 0} (gives : D → Event → Answer → D → Type 0) (setup : Setup) (e : Bool) (a : Asked) (w : Want) (b : List ℕ) (old new : D) (n : Next)

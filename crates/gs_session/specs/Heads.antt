@@ -1,5 +1,5 @@
 -- What the next head leads to.
-use Rattle.std.specs.Prelude.{◌≡◌, ◌⊎◌, ℕ, true, false, cond, List, []}
+use Rattle.std.specs.Prelude.{◌≡◌, ◌⊎◌, ℕ, true, false, cond, List, [], None}
 use Rattle.gs_transfer.specs.declared.places.Transfer.{Transfer}
 use Rattle.gs_verdict.specs.declared.verdicts.Asked.{Asked}
 use Rattle.gs_verdict.specs.declared.verdicts.Verdict.{Verdict}
@@ -26,7 +26,7 @@ BeginsSkip a n = (opens (plan_of a) ≡ false) × ((t : Transfer) × Says n (Ser
 
 -- what a verdict leads to
 abbrev pub AfterVerdict : Verdict → Next → Type 0
-AfterVerdict (Deny d) n = RepliesBy n d.status (allow_notice d.allow) d.closes
+AfterVerdict (Deny d) n = RepliesBy n d.status (allow_notice d.allow) None d.closes
 AfterVerdict (Ask a) n = BeginsOpen a n ⊎ BeginsSkip a n
 
 -- the same, or there was no memory for it

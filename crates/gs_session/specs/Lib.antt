@@ -1,5 +1,5 @@
 -- Read in this order: what a request asks, as the code tells it; the histories that lead to a session's state; what an answer leads
--- to; what a step does, what a turn, and what a whole connection; and the laws.
+-- to; what a step does, what a turn, and what a whole connection; what each round leaves it; and the laws.
 pub mod Plans
 pub mod Trails
 pub mod Leads
@@ -8,4 +8,5 @@ pub mod Heads
 pub mod Steps
 pub mod Turns
 pub mod Connections
+pub mod Rounds
 pub mod Laws

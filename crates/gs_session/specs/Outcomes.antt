@@ -1,5 +1,5 @@
 -- What an answer of the store leads to: the next phase, and what is said.
-use Rattle.std.specs.Prelude.{◌≡◌, ◌⊎◌, ◌==◌, ℕ, Bool, cond, true, List, [], ◌++◌, Vec}
+use Rattle.std.specs.Prelude.{◌≡◌, ◌⊎◌, ◌==◌, ℕ, Bool, cond, true, List, [], ◌++◌, Option, Some, None, Vec}
 use Rattle.std.specs.declared.alloc.Global.{Global}
 use Rattle.gs_model.specs.declared.refusals.Refusal.TheVariants.{NoMemory, LastNumber}
 use Rattle.gs_event.specs.declared.answers.Answer.{Answer}
@@ -36,13 +36,17 @@ Stops n = Says n Over []
 abbrev pub after_reply : Bool → Phase
 after_reply closes = cond closes Over Between
 
--- the reply, or nothing for want of memory
-abbrev pub RepliesBy : Next → ℕ → Notice → Bool → Type 0
-RepliesBy n status notice closes = Says n (after_reply closes) (reply_text status notice closes) ⊎ Stops n
+-- the reply, with a commit number where its status came from the store, or nothing for want of memory
+abbrev pub RepliesBy : Next → ℕ → Notice → Option ℕ → Bool → Type 0
+RepliesBy n status notice commit closes = Says n (after_reply closes) (reply_text status notice commit closes) ⊎ Stops n
 
 -- one without a note
 abbrev pub Replies : Next → ℕ → Bool → Type 0
-Replies n status closes = RepliesBy n status Nothing closes
+Replies n status closes = RepliesBy n status Nothing None closes
+
+-- one without a note besides a commit number
+abbrev pub RepliesCounted : Next → ℕ → ℕ → Bool → Type 0
+RepliesCounted n status number closes = RepliesBy n status Nothing (Some number) closes
 
 -- the transfer of the request's body, at its start
 abbrev pub IsFirstTransfer : Asked → Transfer → Type 0
@@ -72,26 +76,26 @@ AfterOpenPatch a greeting answer n = AfterRefusal a answer n
 
 -- a Delete
 abbrev pub AfterDelete : Asked → Answer → Next → Type 0
-AfterDelete a (Status s name) n = Replies n s a.closes
+AfterDelete a (Status s name number) n = RepliesCounted n s number a.closes
 AfterDelete a (Refused LastNumber) n = Replies n 507 a.closes
 AfterDelete a answer n = Stops n
 
 -- the head of a read, or nothing for want of memory
-abbrev pub RepliesFound : Next → Asked → Type 0
-RepliesFound n a = Says n (after_reply a.closes) (lines_head a.reply a.closes) ⊎ Stops n
+abbrev pub RepliesFound : Next → Asked → ℕ → Type 0
+RepliesFound n a number = Says n (after_reply a.closes) (lines_head a.reply number a.closes) ⊎ Stops n
 
 -- a Head
 abbrev pub AfterLook : Asked → Answer → Next → Type 0
-AfterLook a (Status s name) n = cond (s == 200) (RepliesFound n a) (Replies n s a.closes)
+AfterLook a (Status s name number) n = cond (s == 200) (RepliesFound n a number) (RepliesCounted n s number a.closes)
 AfterLook a answer n = Stops n
 
 -- a Pin that reads
-abbrev pub BeginsRead : Next → Asked → Type 0
-BeginsRead n a = Says n (Serving a Sending) (lines_head a.reply a.closes) ⊎ Says n (Serving a Cutting) []
+abbrev pub BeginsRead : Next → Asked → ℕ → Type 0
+BeginsRead n a number = Says n (Serving a Sending) (lines_head a.reply number a.closes) ⊎ Says n (Serving a Cutting) []
 
 -- a Pin
 abbrev pub AfterPin : Asked → Answer → Next → Type 0
-AfterPin a (Pinned s) n = cond (s == 200) (BeginsRead n a) (Replies n s a.closes)
+AfterPin a (Pinned s number) n = cond (s == 200) (BeginsRead n a number) (RepliesCounted n s number a.closes)
 AfterPin a answer n = Stops n
 
 -- what comes after a piece
@@ -116,14 +120,14 @@ AfterStage a w answer n = Stops n
 
 -- a Commit
 abbrev pub AfterCommit : Asked → Answer → Next → Type 0
-AfterCommit a (Status s name) n = RepliesBy n s (name_notice name) a.closes
+AfterCommit a (Status s name number) n = RepliesBy n s (name_notice name) (Some number) a.closes
 AfterCommit a (Refused NoMemory) n = Says n (Serving a (Failing Memory)) []
 AfterCommit a (Refused LastNumber) n = Says n (Serving a (Failing Numbers)) []
 AfterCommit a answer n = Stops n
 
 -- a CommitPatch
 abbrev pub AfterCommitPatch : Asked → Answer → Next → Type 0
-AfterCommitPatch a (Status s name) n = Replies n s a.closes
+AfterCommitPatch a (Status s name number) n = RepliesCounted n s number a.closes
 AfterCommitPatch a (Refused NoMemory) n = Says n (Serving a (Failing Memory)) []
 AfterCommitPatch a (Refused LastNumber) n = Says n (Serving a (Failing Numbers)) []
 AfterCommitPatch a answer n = Stops n

@@ -6,9 +6,9 @@ use Rattle.gs_session.specs.declared.plans.Plan.TheVariants.{Upload, Patch, Dele
 
 -- one plan for each
 abbrev pub plan_told : Plan → talk.Plan
-plan_told (Upload k) = Uploads k
-plan_told (Patch t) = Patches t
-plan_told (Delete t) = Deletes t
+plan_told (Upload k since) = Uploads k since
+plan_told (Patch t since) = Patches t since
+plan_told (Delete t since) = Deletes t since
 plan_told (Look c) = Looks c
 plan_told (Read c) = Reads c
 plan_told Nothing = NoPlan

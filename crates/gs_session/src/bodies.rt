@@ -24,12 +24,18 @@ use gs_term::Target;
 use gs_transfer::{Part, Transfer};
 use gs_verdict::Asked;
 
-/// A graph is removed.
-fn delete<D: Door>(setup: &Setup, asked: &Asked, target: Target, door: &mut D) -> Next
-    ensures { Does D.Gives setup.now.seat door.old (act.Delete target) door.new
+/// A graph is removed, on the condition that the request has.
+fn delete<D: Door>(
+    setup: &Setup,
+    asked: &Asked,
+    target: Target,
+    since: Option<u64>,
+    door: &mut D,
+) -> Next
+    ensures { Does D.Gives setup.now.seat door.old (act.Delete target since) door.new
         (λ answer. AfterDelete asked.now answer result) }
 {
-    let answer = setup.act(Action::Delete(target), door);
+    let answer = setup.act(Action::Delete(target, since), door);
     after_delete(setup.alloc, asked, &answer)
 }
 
@@ -58,7 +64,9 @@ fn ask<D: Door>(setup: &Setup, asked: Asked, door: &mut D) -> Step
         → DoesStep D.Gives setup.now e (Serving asked (Skipping t)) b door.old result b door.new }
 {
     match plan_of(&asked) {
-        Ok(Plan::Delete(target)) => Step::Made(delete(setup, &asked, target, door)),
+        Ok(Plan::Delete(target, since)) => {
+            Step::Made(delete(setup, &asked, target, since, door))
+        }
         Ok(Plan::Look(scope)) => Step::Made(look(setup, &asked, scope, door)),
         Ok(Plan::Read(scope)) => Step::Made(pin(setup, asked, scope, door)),
         // There was no memory for the name. (Another plan never drops its body.)

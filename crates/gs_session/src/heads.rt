@@ -1,5 +1,5 @@
 //! The step between two requests: the next head.
-ghost use Rattle.std.specs.Prelude.{◌≡◌, ◌≤◌, ◌⊎◌, Bool, true, cond, [], length, IfOk};
+ghost use Rattle.std.specs.Prelude.{◌≡◌, ◌≤◌, ◌⊎◌, Bool, true, cond, [], length, None, IfOk};
 ghost use Rattle.gs_http.specs.Limits.{max_field_name_bytes};
 ghost use Rattle.gs_verdict.specs.Bytes.{head_verdict};
 ghost use Rattle.gs_reply.specs.Replies.{continue_text as continue_bytes};
@@ -41,7 +41,7 @@ pub fn transfer_of(asked: &Asked) -> Transfer
 
 /// The reply to a head that is denied.
 fn deny(alloc: Global, denial: Denial) -> Next
-    ensures { RepliesBy result denial.status (allow_notice denial.allow) denial.closes }
+    ensures { RepliesBy result denial.status (allow_notice denial.allow) None denial.closes }
 {
     match denial.allow {
         None => reply(alloc, denial.status, ReplyNote::Nothing, denial.closes),

@@ -42,18 +42,19 @@ fn receive(setup: &Setup, asked: &Asked, request: u64) -> Work
     }
 }
 
-/// An upload is opened.
+/// An upload is opened, on the condition that the request has.
 fn open_upload<D: Door>(
     setup: &Setup,
     asked: Asked,
     kind: UploadKind,
+    since: Option<u64>,
     greeting: Vec<u8>,
     door: &mut D,
 ) -> Next
-    ensures { Does D.Gives setup.now.seat door.old (act.Open kind) door.new
+    ensures { Does D.Gives setup.now.seat door.old (act.Open kind since) door.new
         (λ answer. AfterOpen setup.now.site asked greeting.items answer result) }
 {
-    match setup.act(Action::Open(kind), door) {
+    match setup.act(Action::Open(kind, since), door) {
         Answer::Opened(request) => {
             let work = receive(setup, &asked, request);
             Next {
@@ -65,18 +66,19 @@ fn open_upload<D: Door>(
     }
 }
 
-/// A patch is opened.
+/// A patch is opened, on such a condition.
 fn open_patch<D: Door>(
     setup: &Setup,
     asked: Asked,
     target: Target,
+    since: Option<u64>,
     greeting: Vec<u8>,
     door: &mut D,
 ) -> Next
-    ensures { Does D.Gives setup.now.seat door.old (act.OpenPatch target) door.new
+    ensures { Does D.Gives setup.now.seat door.old (act.OpenPatch target since) door.new
         (λ answer. AfterOpenPatch asked greeting.items answer result) }
 {
-    match setup.act(Action::OpenPatch(target), door) {
+    match setup.act(Action::OpenPatch(target, since), door) {
         Answer::Opened(request) => {
             let transfer = transfer_of(&asked);
             let body = Vec::new(setup.alloc);
@@ -98,8 +100,12 @@ pub fn open<D: Door>(setup: &Setup, asked: Asked, door: &mut D) -> Step
         return Step::Silent(reply(setup.alloc, 503, ReplyNote::Nothing, true));
     };
     match plan_of(&asked) {
-        Ok(Plan::Upload(kind)) => { Step::Made(open_upload(setup, asked, kind, greeting, door)) }
-        Ok(Plan::Patch(target)) => { Step::Made(open_patch(setup, asked, target, greeting, door)) }
+        Ok(Plan::Upload(kind, since)) => {
+            Step::Made(open_upload(setup, asked, kind, since, greeting, door))
+        }
+        Ok(Plan::Patch(target, since)) => {
+            Step::Made(open_patch(setup, asked, target, since, greeting, door))
+        }
         // There was no memory for the name. (Another plan opens nothing.)
         _ => Step::Silent(reply(setup.alloc, 503, ReplyNote::Nothing, true)),
     }

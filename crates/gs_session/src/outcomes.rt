@@ -1,9 +1,9 @@
 //! What an answer of the store leads to.
-ghost use Rattle.std.specs.Prelude.{◌≡◌, ◌++◌, [], IfOk};
+ghost use Rattle.std.specs.Prelude.{◌≡◌, ◌++◌, [], None, IfOk};
 ghost use Rattle.gs_reply.specs.Notices.{notice_of};
 ghost use Rattle.gs_reply.specs.Replies.{chunk, lines_head};
 ghost use Rattle.gs_talk.specs.Moves.{last_if};
-ghost use Rattle.gs_session.specs.Outcomes.{Says, Stops, RepliesBy, RepliesFound, BeginsRead, AfterRefusal, AfterDelete, AfterLook, AfterPin, AfterPiece, AfterStage, AfterCommit, AfterCommitPatch, AfterCancel};
+ghost use Rattle.gs_session.specs.Outcomes.{Says, Stops, RepliesBy, RepliesCounted, RepliesFound, BeginsRead, AfterRefusal, AfterDelete, AfterLook, AfterPin, AfterPiece, AfterStage, AfterCommit, AfterCommitPatch, AfterCancel};
 ghost use Rattle.gs_session.specs.Outcomes as spec;
 
 use crate::phases::{Phase, Want, Work};
@@ -44,18 +44,39 @@ fn after_reply(closes: bool) -> Phase
     if closes { Phase::Over } else { Phase::Between }
 }
 
-/// A reply without lines; where there is no memory for it, nothing is said and the connection ends.
-pub fn reply(alloc: Global, status: u16, note: ReplyNote<'_>, closes: bool) -> Next
-    ensures { RepliesBy result status (notice_of note.entry) closes }
+/// A reply without lines, with a commit number where its status came from the store; where there is no
+/// memory for it, nothing is said and the connection ends.
+fn reply_with(
+    alloc: Global,
+    status: u16,
+    note: ReplyNote<'_>,
+    commit: Option<u64>,
+    closes: bool,
+) -> Next
+    ensures { RepliesBy result status (notice_of note.entry) commit closes }
 {
     let mut text = Vec::new(alloc);
-    match push_reply(&mut text, status, note, closes) {
+    match push_reply(&mut text, status, note, commit, closes) {
         Ok(()) => Next {
             phase: after_reply(closes),
             said: text,
         },
         Err(_) => stop(alloc),
     }
+}
+
+/// One whose status did not come from the store.
+pub fn reply(alloc: Global, status: u16, note: ReplyNote<'_>, closes: bool) -> Next
+    ensures { RepliesBy result status (notice_of note.entry) None closes }
+{
+    reply_with(alloc, status, note, None, closes)
+}
+
+/// One that says no more than the store did: its status and a commit number.
+fn counted_reply(alloc: Global, status: u16, number: u64, closes: bool) -> Next
+    ensures { RepliesCounted result status number closes }
+{
+    reply_with(alloc, status, ReplyNote::Nothing, Some(number), closes)
 }
 
 /// What an Open leads to that was not answered by a number.
@@ -77,26 +98,26 @@ pub fn after_delete(alloc: Global, asked: &Asked, answer: &Answer) -> Next
     ensures { AfterDelete asked.now answer.now result }
 {
     match answer {
-        Answer::Status(status, _) => reply(alloc, *status, ReplyNote::Nothing, asked.closes),
+        Answer::Status(status, _, number) => counted_reply(alloc, *status, *number, asked.closes),
         Answer::Refused(Refusal::LastNumber) => reply(alloc, 507, ReplyNote::Nothing, asked.closes),
         _ => stop(alloc),
     }
 }
 
 /// The head of a read.
-fn head_text(alloc: Global, asked: &Asked) -> Result<Vec<u8>, AllocError>
-    ensures { IfOk result (λ text. text.items ≡ lines_head asked.now.reply asked.now.closes) }
+fn head_text(alloc: Global, asked: &Asked, commit: u64) -> Result<Vec<u8>, AllocError>
+    ensures { IfOk result (λ text. text.items ≡ lines_head asked.now.reply commit asked.now.closes) }
 {
     let mut text = Vec::new(alloc);
-    push_lines_head(&mut text, asked.reply, asked.closes)?;
+    push_lines_head(&mut text, asked.reply, commit, asked.closes)?;
     Ok(text)
 }
 
 /// The reply to a HEAD of a graph that is there, or of all graphs.
-fn found(alloc: Global, asked: &Asked) -> Next
-    ensures { RepliesFound result asked.now }
+fn found(alloc: Global, asked: &Asked, commit: u64) -> Next
+    ensures { RepliesFound result asked.now commit }
 {
-    match head_text(alloc, asked) {
+    match head_text(alloc, asked, commit) {
         Ok(text) => Next {
             phase: after_reply(asked.closes),
             said: text,
@@ -110,11 +131,11 @@ pub fn after_look(alloc: Global, asked: &Asked, answer: &Answer) -> Next
     ensures { AfterLook asked.now answer.now result }
 {
     match answer {
-        Answer::Status(status, _) => {
+        Answer::Status(status, _, number) => {
             if *status == 200 {
-                found(alloc, asked)
+                found(alloc, asked, *number)
             } else {
-                reply(alloc, *status, ReplyNote::Nothing, asked.closes)
+                counted_reply(alloc, *status, *number, asked.closes)
             }
         }
         _ => stop(alloc),
@@ -122,10 +143,10 @@ pub fn after_look(alloc: Global, asked: &Asked, answer: &Answer) -> Next
 }
 
 /// A read begins.
-fn begin_read(alloc: Global, asked: Asked) -> Next
-    ensures { BeginsRead result asked }
+fn begin_read(alloc: Global, asked: Asked, commit: u64) -> Next
+    ensures { BeginsRead result asked commit }
 {
-    match head_text(alloc, &asked) {
+    match head_text(alloc, &asked, commit) {
         Ok(text) => Next {
             phase: Phase::Serving(asked, Work::Sending),
             said: text,
@@ -139,11 +160,11 @@ pub fn after_pin(alloc: Global, asked: Asked, answer: &Answer) -> Next
     ensures { AfterPin asked answer.now result }
 {
     match answer {
-        Answer::Pinned(status) => {
+        Answer::Pinned(status, number) => {
             if *status == 200 {
-                begin_read(alloc, asked)
+                begin_read(alloc, asked, *number)
             } else {
-                reply(alloc, *status, ReplyNote::Nothing, asked.closes)
+                counted_reply(alloc, *status, *number, asked.closes)
             }
         }
         _ => stop(alloc),
@@ -234,14 +255,12 @@ pub fn after_commit(alloc: Global, asked: Asked, answer: &Answer) -> Next
     ensures { AfterCommit asked answer.now result }
 {
     match answer {
-        Answer::Status(status, None) => reply(alloc, *status, ReplyNote::Nothing, asked.closes),
-        Answer::Status(status, Some(name)) => {
-            reply(
-                alloc,
-                *status,
-                ReplyNote::Made(name.as_bytes()),
-                asked.closes,
-            )
+        Answer::Status(status, None, number) => {
+            counted_reply(alloc, *status, *number, asked.closes)
+        }
+        Answer::Status(status, Some(name), number) => {
+            let note = ReplyNote::Made(name.as_bytes());
+            reply_with(alloc, *status, note, Some(*number), asked.closes)
         }
         Answer::Refused(Refusal::NoMemory) => {
             silently(alloc, Phase::Serving(asked, Work::Failing(Want::Memory)))
@@ -258,7 +277,7 @@ pub fn after_commit_patch(alloc: Global, asked: Asked, answer: &Answer) -> Next
     ensures { AfterCommitPatch asked answer.now result }
 {
     match answer {
-        Answer::Status(status, _) => reply(alloc, *status, ReplyNote::Nothing, asked.closes),
+        Answer::Status(status, _, number) => counted_reply(alloc, *status, *number, asked.closes),
         Answer::Refused(Refusal::NoMemory) => {
             silently(alloc, Phase::Serving(asked, Work::Failing(Want::Memory)))
         }

@@ -3,7 +3,8 @@ ghost use Rattle.std.specs.Prelude.{◌≡◌, ℕ, List, Option, Bool, true, fa
 ghost use Rattle.std.specs.Io.KnownBytes.{Keeps};
 ghost use Rattle.gs_model.specs.Bases.{is_base};
 ghost use Rattle.gs_talk.specs.Logs.{Server};
-ghost use Rattle.gs_session.specs.Connections.{Connection, Comes, Goes, IsFinished, Quit, ReadsInput, Loses};
+ghost use Rattle.gs_session.specs.Connections.{Connection, IsFinished, Quit};
+ghost use Rattle.gs_session.specs.Rounds.{Comes, Goes, ReadsInput, Loses};
 
 use crate::sessions::{Session, Turn};
 use crate::writing::write_text;

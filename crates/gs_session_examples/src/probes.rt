@@ -69,7 +69,7 @@ impl Probe {
         let records = store.nodes_in_use().checked_sub(triples)?;
         let mut graphs = 0u8;
         for head in &self.heads {
-            let Answer::Status(status, _) = store.step(head) else {
+            let Answer::Status(status, _, _) = store.step(head) else {
                 return None;
             };
             graphs = graphs.wrapping_mul(2).wrapping_add(u8::from(status == 200));

@@ -10,6 +10,7 @@ use Rattle.gs_model.specs.declared.refusals.Refusal.TheVariants as why
 use Rattle.gs_event.specs.declared.events.Action.TheVariants.{Open, OpenPatch, Stage, Commit, CommitPatch, Delete, Head, Pin, Piece, Cancel}
 use Rattle.gs_event.specs.declared.answers.Answer.{Answer}
 use Rattle.gs_event.specs.declared.answers.Answer.TheVariants.{Opened, Staged, Status, Pinned, Lines, Cancelled, Refused}
+use Rattle.gs_event.specs.Conditions.{asked_since}
 use Rattle.gs_event.specs.Phases as phase
 use Rattle.gs_event.specs.Phases.{operation_of}
 use Rattle.gs_event.specs.Operations as operation
@@ -41,47 +42,45 @@ pub record Follows (p : Plan) (c d : Course) (m : Move) : Type 0 where
   pub seat : phase_in (phase_at p c) (deed_of m) ≡ phase_at p d
   pub asked : operations_at p c ++ asked_in (phase_at p c) (deed_of m) ≡ operations_at p d
 
-open_follows : (k : _) (answer : Answer) → Follows (Uploads k) Fresh (at_open answer) (Did (Open k) answer)
-open_follows k (Opened r) = record { seat = refl; asked = refl }
-open_follows k (Refused why.NoMemory) = record { seat = refl; asked = refl }
-open_follows k (Refused why.LastNumber) = record { seat = refl; asked = refl }
-open_follows k other = record { seat = refl; asked = refl }
+open_follows : (k since : _) (answer : Answer) → Follows (Uploads k since) Fresh (at_open answer) (Did (Open k since) answer)
+open_follows k since (Opened r) = record { seat = refl; asked = refl }
+open_follows k since (Refused why.NoMemory) = record { seat = refl; asked = refl }
+open_follows k since (Refused why.LastNumber) = record { seat = refl; asked = refl }
+open_follows k since other = record { seat = refl; asked = refl }
 
-open_patch_follows : (t : _) (answer : Answer) → Follows (Patches t) Fresh (at_open_patch answer) (Did (OpenPatch t) answer)
-open_patch_follows t (Opened r) = record { seat = refl; asked = refl }
-open_patch_follows t (Refused why.NoMemory) = record { seat = refl; asked = refl }
-open_patch_follows t (Refused why.LastNumber) = record { seat = refl; asked = refl }
-open_patch_follows t other = record { seat = refl; asked = refl }
+open_patch_follows : (t since : _) (answer : Answer) → Follows (Patches t since) Fresh (at_open_patch answer) (Did (OpenPatch t since) answer)
+open_patch_follows t since (Opened r) = record { seat = refl; asked = refl }
+open_patch_follows t since (Refused why.NoMemory) = record { seat = refl; asked = refl }
+open_patch_follows t since (Refused why.LastNumber) = record { seat = refl; asked = refl }
+open_patch_follows t since other = record { seat = refl; asked = refl }
 
-delete_follows : (t : _) (answer : Answer) → Follows (Deletes t) Fresh (at_delete answer) (Did (Delete t) answer)
-delete_follows t (Status s name) = record { seat = refl; asked = refl }
-delete_follows t (Refused why.LastNumber) = record { seat = refl; asked = refl }
-delete_follows t other = record { seat = refl; asked = refl }
+delete_follows : (t since : _) (answer : Answer) → Follows (Deletes t since) Fresh (at_delete answer) (Did (Delete t since) answer)
+delete_follows t since (Status s name number) = record { seat = refl; asked = refl }
+delete_follows t since (Refused why.LastNumber) = record { seat = refl; asked = refl }
+delete_follows t since other = record { seat = refl; asked = refl }
 
 head_follows : (t : _) (answer : Answer) → Follows (Looks t) Fresh (at_head answer) (Did (Head t) answer)
-head_follows t (Status s name) = record { seat = refl; asked = refl }
+head_follows t (Status s name number) = record { seat = refl; asked = refl }
 head_follows t other = record { seat = refl; asked = refl }
 
-pinned_seat : (t : _) (out : List ℕ) (s : ℕ) (b : Bool) → cond b (phase.Reading tt) phase.Idle ≡ phase_at (Reads t) (cond b (Held [] out false) (Missing s))
-pinned_seat t out s true = refl
-pinned_seat t out s false = refl
+pinned_seat : (t : _) (out : List ℕ) (s number : ℕ) (b : Bool) → cond b (phase.Reading tt) phase.Idle ≡ phase_at (Reads t) (cond b (Held [] out false) (Missing s number))
+pinned_seat t out s number true = refl
+pinned_seat t out s number false = refl
 
-pinned_asked : (t : _) (out : List ℕ) (s : ℕ) (b : Bool) → (0, operation.Reads t) ∷ [] ≡ operations_at (Reads t) (cond b (Held [] out false) (Missing s))
-pinned_asked t out s true = refl
-pinned_asked t out s false = refl
+pinned_asked : (t : _) (out : List ℕ) (s number : ℕ) (b : Bool) → (0, asked_since None (operation.Reads t)) ∷ [] ≡ operations_at (Reads t) (cond b (Held [] out false) (Missing s number))
+pinned_asked t out s number true = refl
+pinned_asked t out s number false = refl
 
 pin_follows : (a : Asked) (t : _) (answer : Answer) → Follows (Reads t) Fresh (at_pin a answer) (Did (Pin t) answer)
-pin_follows a t (Pinned s) = record { seat = pinned_seat t (lines_head a.reply a.closes) s (s == 200); asked = pinned_asked t (lines_head a.reply a.closes) s (s == 200) }
+pin_follows a t (Pinned s number) = record { seat = pinned_seat t (lines_head a.reply number a.closes) s number (s == 200); asked = pinned_asked t (lines_head a.reply number a.closes) s number (s == 200) }
 pin_follows a t other = record { seat = refl; asked = refl }
 
 -- the first move
 
 first_follows : (a : Asked) (piece : ℕ) (p : Plan) (m : Move) → AllSuit piece p (m ∷ []) → IsRight (first a p m) → Follows p Fresh (first a p m) m
-first_follows a piece (Uploads k) (Did (Open j) answer) s r = open_so k j answer s.0 where
-  open_so : (k j : _) (answer : Answer) → Uploads k ≡ Uploads j → Follows (Uploads k) Fresh (at_open answer) (Did (Open j) answer)
-  open_so k j answer e = subst (λ (q : Plan). Follows q Fresh (at_open answer) (Did (Open j) answer)) (sym e) (open_follows j answer)
-first_follows a piece (Patches t) (Did (OpenPatch u) answer) s r = subst (λ (q : Plan). Follows q Fresh (at_open_patch answer) (Did (OpenPatch u) answer)) (sym s.0) (open_patch_follows u answer)
-first_follows a piece (Deletes t) (Did (Delete u) answer) s r = subst (λ (q : Plan). Follows q Fresh (at_delete answer) (Did (Delete u) answer)) (sym s.0) (delete_follows u answer)
+first_follows a piece (Uploads k since) (Did (Open j given) answer) s r = subst (λ (q : Plan). Follows q Fresh (at_open answer) (Did (Open j given) answer)) (sym s.0) (open_follows j given answer)
+first_follows a piece (Patches t since) (Did (OpenPatch u given) answer) s r = subst (λ (q : Plan). Follows q Fresh (at_open_patch answer) (Did (OpenPatch u given) answer)) (sym s.0) (open_patch_follows u given answer)
+first_follows a piece (Deletes t since) (Did (Delete u given) answer) s r = subst (λ (q : Plan). Follows q Fresh (at_delete answer) (Did (Delete u given) answer)) (sym s.0) (delete_follows u given answer)
 first_follows a piece (Looks t) (Did (Head u) answer) s r = subst (λ (q : Plan). Follows q Fresh (at_head answer) (Did (Head u) answer)) (sym s.0) (head_follows u answer)
 first_follows a piece (Reads t) (Did (Pin u) answer) s r = subst (λ (q : Plan). Follows q Fresh (at_pin a answer) (Did (Pin u) answer)) (sym s.0) (pin_follows a u answer)
 first_follows a piece p Short s r = record { seat = refl; asked = refl }
@@ -91,39 +90,39 @@ first_follows a piece p m s r = absurd r
 
 staged : (p : Plan) (r : ℕ) (g : List RdfTriple) (v : Vec RdfTriple Global) (u : List RdfTriple) → v.items ≡ u
     → phase_then (writing_phase p r g) (Stage v, Staged) ≡ writing_phase p r (g ++ u)
-staged (Uploads k) r g v u e = ap (λ z. phase.Writing k r z) (ap (with_triples (graph_of g)) e ∙ graph_grows g u)
+staged (Uploads k since) r g v u e = ap (λ z. phase.Writing k r z since) (ap (with_triples (graph_of g)) e ∙ graph_grows g u)
 staged p r g v u e = refl
 
 unstaged : (p : Plan) (r : ℕ) (g : List RdfTriple) (v : Vec RdfTriple Global) (e : _) → phase_then (writing_phase p r g) (Stage v, Refused e) ≡ writing_phase p r g
-unstaged (Uploads k) r g v e = refl
+unstaged (Uploads k since) r g v e = refl
 unstaged p r g v e = refl
 
 no_point : (p : Plan) (r : ℕ) (g : List RdfTriple) (v : Vec RdfTriple Global) (answer : Answer) → operation_of (writing_phase p r g) (Stage v) answer ≡ None
-no_point (Uploads k) r g v answer = refl
+no_point (Uploads k since) r g v answer = refl
 no_point p r g v answer = refl
 
 stage_follows : (p : Plan) (r : ℕ) (g : List RdfTriple) (v : Vec RdfTriple Global) (u : List RdfTriple) (answer : Answer) → v.items ≡ u → IsRight (at_stage r g u answer)
     → Follows p (Writing r g) (at_stage r g u answer) (Did (Stage v) answer)
 stage_follows p r g v [] answer e h = absurd h
 stage_follows p r g v (t ∷ ts) Staged e h = record { seat = staged p r g v (t ∷ ts) e; asked = rw (no_point p r g v Staged) refl }
-stage_follows (Uploads k) r g v (t ∷ ts) (Refused why.NoMemory) e h = record { seat = refl; asked = refl }
-stage_follows (Uploads k) r g v (t ∷ ts) other e h = record { seat = refl; asked = refl }
+stage_follows (Uploads k since) r g v (t ∷ ts) (Refused why.NoMemory) e h = record { seat = refl; asked = refl }
+stage_follows (Uploads k since) r g v (t ∷ ts) other e h = record { seat = refl; asked = refl }
 stage_follows p r g v (t ∷ ts) (Refused why.NoMemory) e h = record { seat = refl; asked = refl }
 stage_follows p r g v (t ∷ ts) other e h = record { seat = refl; asked = refl }
 
 commit_follows : (p : Plan) (r : ℕ) (g : List RdfTriple) (answer : Answer) → Follows p (Writing r g) (course_at_commit r g answer) (Did Commit answer)
-commit_follows (Uploads k) r g (Status s name) = record { seat = refl; asked = refl }
-commit_follows (Uploads k) r g (Refused why.NoMemory) = record { seat = refl; asked = refl }
-commit_follows (Uploads k) r g (Refused why.LastNumber) = record { seat = refl; asked = refl }
-commit_follows (Uploads k) r g other = record { seat = refl; asked = refl }
-commit_follows p r g (Status s name) = record { seat = refl; asked = refl }
+commit_follows (Uploads k since) r g (Status s name number) = record { seat = refl; asked = refl }
+commit_follows (Uploads k since) r g (Refused why.NoMemory) = record { seat = refl; asked = refl }
+commit_follows (Uploads k since) r g (Refused why.LastNumber) = record { seat = refl; asked = refl }
+commit_follows (Uploads k since) r g other = record { seat = refl; asked = refl }
+commit_follows p r g (Status s name number) = record { seat = refl; asked = refl }
 commit_follows p r g (Refused why.NoMemory) = record { seat = refl; asked = refl }
 commit_follows p r g (Refused why.LastNumber) = record { seat = refl; asked = refl }
 commit_follows p r g other = record { seat = refl; asked = refl }
 
 drop_follows : (p : Plan) (r : ℕ) (g : List RdfTriple) (answer : Answer) → Follows p (Writing r g) (at_cancel (Writing r g) (Dropped r) answer) (Did Cancel answer)
-drop_follows (Uploads k) r g Cancelled = record { seat = refl; asked = refl }
-drop_follows (Uploads k) r g other = record { seat = refl; asked = refl }
+drop_follows (Uploads k since) r g Cancelled = record { seat = refl; asked = refl }
+drop_follows (Uploads k since) r g other = record { seat = refl; asked = refl }
 drop_follows p r g Cancelled = record { seat = refl; asked = refl }
 drop_follows p r g other = record { seat = refl; asked = refl }
 
@@ -137,18 +136,18 @@ writing_follows p r g m h = absurd h
 -- in a patch
 
 commit_patch_follows : (p : Plan) (r : ℕ) (ops : Vec Op Global) (answer : Answer) → Follows p (Patching r) (at_commit_patch r ops.items answer) (Did (CommitPatch ops) answer)
-commit_patch_follows (Patches t) r ops (Status s name) = record { seat = refl; asked = refl }
-commit_patch_follows (Patches t) r ops (Refused why.NoMemory) = record { seat = refl; asked = refl }
-commit_patch_follows (Patches t) r ops (Refused why.LastNumber) = record { seat = refl; asked = refl }
-commit_patch_follows (Patches t) r ops other = record { seat = refl; asked = refl }
-commit_patch_follows p r ops (Status s name) = record { seat = refl; asked = refl }
+commit_patch_follows (Patches t since) r ops (Status s name number) = record { seat = refl; asked = refl }
+commit_patch_follows (Patches t since) r ops (Refused why.NoMemory) = record { seat = refl; asked = refl }
+commit_patch_follows (Patches t since) r ops (Refused why.LastNumber) = record { seat = refl; asked = refl }
+commit_patch_follows (Patches t since) r ops other = record { seat = refl; asked = refl }
+commit_patch_follows p r ops (Status s name number) = record { seat = refl; asked = refl }
 commit_patch_follows p r ops (Refused why.NoMemory) = record { seat = refl; asked = refl }
 commit_patch_follows p r ops (Refused why.LastNumber) = record { seat = refl; asked = refl }
 commit_patch_follows p r ops other = record { seat = refl; asked = refl }
 
 drop_patch_follows : (p : Plan) (r : ℕ) (answer : Answer) → Follows p (Patching r) (at_cancel (Patching r) (Dropped r) answer) (Did Cancel answer)
-drop_patch_follows (Patches t) r Cancelled = record { seat = refl; asked = refl }
-drop_patch_follows (Patches t) r other = record { seat = refl; asked = refl }
+drop_patch_follows (Patches t since) r Cancelled = record { seat = refl; asked = refl }
+drop_patch_follows (Patches t since) r other = record { seat = refl; asked = refl }
 drop_patch_follows p r Cancelled = record { seat = refl; asked = refl }
 drop_patch_follows p r other = record { seat = refl; asked = refl }
 
@@ -181,14 +180,14 @@ held_follows p out due end m h = absurd h
 
 cancelled_idle : (s : SeatPhase) → phase_then s (Cancel, Cancelled) ≡ phase.Idle
 cancelled_idle phase.Idle = refl
-cancelled_idle (phase.Writing k r g) = refl
-cancelled_idle (phase.Patching t r) = refl
+cancelled_idle (phase.Writing k r g since) = refl
+cancelled_idle (phase.Patching t r since) = refl
 cancelled_idle (phase.Reading left) = refl
 
 cancelled_asks : (s : SeatPhase) (answer : Answer) → operation_of s Cancel answer ≡ None
 cancelled_asks phase.Idle answer = refl
-cancelled_asks (phase.Writing k r g) answer = refl
-cancelled_asks (phase.Patching t r) answer = refl
+cancelled_asks (phase.Writing k r g since) answer = refl
+cancelled_asks (phase.Patching t r since) answer = refl
 cancelled_asks (phase.Reading left) answer = refl
 
 pub lacking_follows : (p : Plan) (c : Course) (l : Lack) (answer : Answer) → Follows p (Lacking c l) (at_cancel (Lacking c l) (Late l) answer) (Did Cancel answer)
@@ -196,8 +195,8 @@ lacking_follows p c l answer = by_phase (phase_at p c) answer refl where
   by_phase : (s : SeatPhase) (answer : Answer) → phase_at p c ≡ s → Follows p (Lacking c l) (at_cancel (Lacking c l) (Late l) answer) (Did Cancel answer)
   by_phase s Cancelled e = record { seat = cancelled_idle (phase_at p c); asked = rw (cancelled_asks (phase_at p c) Cancelled) refl }
   by_phase phase.Idle other e = record { seat = rw e refl; asked = rw e refl }
-  by_phase (phase.Writing k r g) other e = record { seat = rw e refl; asked = rw e refl }
-  by_phase (phase.Patching t r) other e = record { seat = rw e refl; asked = rw e refl }
+  by_phase (phase.Writing k r g since) other e = record { seat = rw e refl; asked = rw e refl }
+  by_phase (phase.Patching t r since) other e = record { seat = rw e refl; asked = rw e refl }
   by_phase (phase.Reading left) other e = record { seat = rw e refl; asked = rw e refl }
 
 cutting_follows : (p : Plan) (out : List ℕ) (answer : Answer) → Follows p (Cutting out) (at_cancel (Cutting out) (Cut out) answer) (Did Cancel answer)
@@ -222,11 +221,11 @@ after_follows a piece (Cutting out) m s h = absurd h
 after_follows a piece (Early l) m s h = ready_follows (plan_of a) (Early l) m h
 after_follows a piece (Late l) m s h = ready_follows (plan_of a) (Late l) m h
 after_follows a piece (Dropped r) m s h = ready_follows (plan_of a) (Dropped r) m h
-after_follows a piece (Wrote r g st n) m s h = ready_follows (plan_of a) (Wrote r g st n) m h
-after_follows a piece (Patched r ops st) m s h = ready_follows (plan_of a) (Patched r ops st) m h
-after_follows a piece (Erased st) m s h = ready_follows (plan_of a) (Erased st) m h
-after_follows a piece (Looked st) m s h = ready_follows (plan_of a) (Looked st) m h
-after_follows a piece (Missing st) m s h = ready_follows (plan_of a) (Missing st) m h
+after_follows a piece (Wrote r g st name number) m s h = ready_follows (plan_of a) (Wrote r g st name number) m h
+after_follows a piece (Patched r ops st number) m s h = ready_follows (plan_of a) (Patched r ops st number) m h
+after_follows a piece (Erased st number) m s h = ready_follows (plan_of a) (Erased st number) m h
+after_follows a piece (Looked st number) m s h = ready_follows (plan_of a) (Looked st number) m h
+after_follows a piece (Missing st number) m s h = ready_follows (plan_of a) (Missing st number) m h
 after_follows a piece c m s h = absurd h
 
 -- all moves

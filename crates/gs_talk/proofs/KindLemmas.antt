@@ -35,58 +35,58 @@ of_kind s action answer k then = go (slice_get k.0.seats s) k.1 where
   go None e = ap is_misfit e
   go (Some p) f = then k.0.totals p f
 
-open_misfit : (v : Totals) (p : SeatView) (k : _) (answer : Answer) → FitsSeat v p (Open k) answer → IsBroken (at_open answer) → is_misfit answer ≡ true
-open_misfit v p k (Opened r) f b = absurd b
-open_misfit v p k (Refused why.NoMemory) f b = absurd b
-open_misfit v p k (Refused why.LastNumber) f b = absurd b
-open_misfit v p k (Refused why.WrongPhase) f b = refl
-open_misfit v p k (Refused why.BadSeat) f b = refl
-open_misfit v phase.Idle k answer f b = absurd f
-open_misfit v (phase.Writing j r g) k answer f b = absurd f
-open_misfit v (phase.Patching t r) k answer f b = absurd f
-open_misfit v (phase.Reading l) k answer f b = absurd f
+open_misfit : (v : Totals) (p : SeatView) (k since : _) (answer : Answer) → FitsSeat v p (Open k since) answer → IsBroken (at_open answer) → is_misfit answer ≡ true
+open_misfit v p k since (Opened r) f b = absurd b
+open_misfit v p k since (Refused why.NoMemory) f b = absurd b
+open_misfit v p k since (Refused why.LastNumber) f b = absurd b
+open_misfit v p k since (Refused why.WrongPhase) f b = refl
+open_misfit v p k since (Refused why.BadSeat) f b = refl
+open_misfit v phase.Idle k since answer f b = absurd f
+open_misfit v (phase.Writing j r g w) k since answer f b = absurd f
+open_misfit v (phase.Patching t r w) k since answer f b = absurd f
+open_misfit v (phase.Reading l) k since answer f b = absurd f
 
-open_patch_misfit : (v : Totals) (p : SeatView) (u : _) (answer : Answer) → FitsSeat v p (OpenPatch u) answer → IsBroken (at_open_patch answer) → is_misfit answer ≡ true
-open_patch_misfit v p u (Opened r) f b = absurd b
-open_patch_misfit v p u (Refused why.NoMemory) f b = absurd b
-open_patch_misfit v p u (Refused why.LastNumber) f b = absurd b
-open_patch_misfit v p u (Refused why.WrongPhase) f b = refl
-open_patch_misfit v p u (Refused why.BadSeat) f b = refl
-open_patch_misfit v phase.Idle u answer f b = absurd f
-open_patch_misfit v (phase.Writing j r g) u answer f b = absurd f
-open_patch_misfit v (phase.Patching t r) u answer f b = absurd f
-open_patch_misfit v (phase.Reading l) u answer f b = absurd f
+open_patch_misfit : (v : Totals) (p : SeatView) (u since : _) (answer : Answer) → FitsSeat v p (OpenPatch u since) answer → IsBroken (at_open_patch answer) → is_misfit answer ≡ true
+open_patch_misfit v p u since (Opened r) f b = absurd b
+open_patch_misfit v p u since (Refused why.NoMemory) f b = absurd b
+open_patch_misfit v p u since (Refused why.LastNumber) f b = absurd b
+open_patch_misfit v p u since (Refused why.WrongPhase) f b = refl
+open_patch_misfit v p u since (Refused why.BadSeat) f b = refl
+open_patch_misfit v phase.Idle u since answer f b = absurd f
+open_patch_misfit v (phase.Writing j r g w) u since answer f b = absurd f
+open_patch_misfit v (phase.Patching t r w) u since answer f b = absurd f
+open_patch_misfit v (phase.Reading l) u since answer f b = absurd f
 
-delete_misfit : (v : Totals) (p : SeatView) (u : _) (answer : Answer) → FitsSeat v p (Delete u) answer → IsBroken (at_delete answer) → is_misfit answer ≡ true
-delete_misfit v p u (Status s name) f b = absurd b
-delete_misfit v p u (Refused why.LastNumber) f b = absurd b
-delete_misfit v p u (Refused why.WrongPhase) f b = refl
-delete_misfit v p u (Refused why.BadSeat) f b = refl
-delete_misfit v phase.Idle u answer f b = absurd f
-delete_misfit v (phase.Writing j r g) u answer f b = absurd f
-delete_misfit v (phase.Patching t r) u answer f b = absurd f
-delete_misfit v (phase.Reading l) u answer f b = absurd f
+delete_misfit : (v : Totals) (p : SeatView) (u since : _) (answer : Answer) → FitsSeat v p (Delete u since) answer → IsBroken (at_delete answer) → is_misfit answer ≡ true
+delete_misfit v p u since (Status s name number) f b = absurd b
+delete_misfit v p u since (Refused why.LastNumber) f b = absurd b
+delete_misfit v p u since (Refused why.WrongPhase) f b = refl
+delete_misfit v p u since (Refused why.BadSeat) f b = refl
+delete_misfit v phase.Idle u since answer f b = absurd f
+delete_misfit v (phase.Writing j r g w) u since answer f b = absurd f
+delete_misfit v (phase.Patching t r w) u since answer f b = absurd f
+delete_misfit v (phase.Reading l) u since answer f b = absurd f
 
 head_misfit : (v : Totals) (p : SeatView) (u : _) (answer : Answer) → FitsSeat v p (Head u) answer → IsBroken (at_head answer) → is_misfit answer ≡ true
-head_misfit v p u (Status s name) f b = absurd b
+head_misfit v p u (Status s name number) f b = absurd b
 head_misfit v p u (Refused why.WrongPhase) f b = refl
 head_misfit v p u (Refused why.BadSeat) f b = refl
 head_misfit v phase.Idle u answer f b = absurd f
-head_misfit v (phase.Writing j r g) u answer f b = absurd f
-head_misfit v (phase.Patching t r) u answer f b = absurd f
+head_misfit v (phase.Writing j r g w) u answer f b = absurd f
+head_misfit v (phase.Patching t r w) u answer f b = absurd f
 head_misfit v (phase.Reading l) u answer f b = absurd f
 
-pinned_stands : (out : List ℕ) (s : ℕ) (b : Bool) → IsBroken (cond b (Held [] out false) (Missing s)) → ⊥
-pinned_stands out s true b = b
-pinned_stands out s false b = b
+pinned_stands : (out : List ℕ) (s number : ℕ) (b : Bool) → IsBroken (cond b (Held [] out false) (Missing s number)) → ⊥
+pinned_stands out s number true b = b
+pinned_stands out s number false b = b
 
 pin_misfit : (a : Asked) (v : Totals) (p : SeatView) (u : _) (answer : Answer) → FitsSeat v p (Pin u) answer → IsBroken (at_pin a answer) → is_misfit answer ≡ true
-pin_misfit a v p u (Pinned s) f b = absurd (pinned_stands _ s (s == 200) b)
+pin_misfit a v p u (Pinned s number) f b = absurd (pinned_stands _ s number (s == 200) b)
 pin_misfit a v p u (Refused why.WrongPhase) f b = refl
 pin_misfit a v p u (Refused why.BadSeat) f b = refl
 pin_misfit a v phase.Idle u answer f b = absurd f
-pin_misfit a v (phase.Writing j r g) u answer f b = absurd f
-pin_misfit a v (phase.Patching t r) u answer f b = absurd f
+pin_misfit a v (phase.Writing j r g w) u answer f b = absurd f
+pin_misfit a v (phase.Patching t r w) u answer f b = absurd f
 pin_misfit a v (phase.Reading l) u answer f b = absurd f
 
 stage_misfit : (v : Totals) (p : SeatView) (r : ℕ) (g us : List RdfTriple) (ts : Vec RdfTriple Global) (answer : Answer) → FitsSeat v p (Stage ts) answer → IsBroken (at_stage r g us answer) → is_misfit answer ≡ true
@@ -96,30 +96,30 @@ stage_misfit v p r g (u ∷ us) ts (Refused why.NoMemory) f b = absurd b
 stage_misfit v p r g (u ∷ us) ts (Refused why.WrongPhase) f b = refl
 stage_misfit v p r g (u ∷ us) ts (Refused why.BadSeat) f b = refl
 stage_misfit v phase.Idle r g (u ∷ us) ts answer f b = absurd f
-stage_misfit v (phase.Writing j i h) r g (u ∷ us) ts answer f b = absurd f
-stage_misfit v (phase.Patching t i) r g (u ∷ us) ts answer f b = absurd f
+stage_misfit v (phase.Writing j i h w) r g (u ∷ us) ts answer f b = absurd f
+stage_misfit v (phase.Patching t i w) r g (u ∷ us) ts answer f b = absurd f
 stage_misfit v (phase.Reading l) r g (u ∷ us) ts answer f b = absurd f
 
 commit_misfit : (v : Totals) (p : SeatView) (r : ℕ) (g : List RdfTriple) (answer : Answer) → FitsSeat v p Commit answer → IsBroken (course_at_commit r g answer) → is_misfit answer ≡ true
-commit_misfit v p r g (Status s name) f b = absurd b
+commit_misfit v p r g (Status s name number) f b = absurd b
 commit_misfit v p r g (Refused why.NoMemory) f b = absurd b
 commit_misfit v p r g (Refused why.LastNumber) f b = absurd b
 commit_misfit v p r g (Refused why.WrongPhase) f b = refl
 commit_misfit v p r g (Refused why.BadSeat) f b = refl
 commit_misfit v phase.Idle r g answer f b = absurd f
-commit_misfit v (phase.Writing j i h) r g answer f b = absurd f
-commit_misfit v (phase.Patching t i) r g answer f b = absurd f
+commit_misfit v (phase.Writing j i h w) r g answer f b = absurd f
+commit_misfit v (phase.Patching t i w) r g answer f b = absurd f
 commit_misfit v (phase.Reading l) r g answer f b = absurd f
 
 commit_patch_misfit : (v : Totals) (p : SeatView) (r : ℕ) (us : List Op) (ops : Vec Op Global) (answer : Answer) → FitsSeat v p (CommitPatch ops) answer → IsBroken (at_commit_patch r us answer) → is_misfit answer ≡ true
-commit_patch_misfit v p r us ops (Status s name) f b = absurd b
+commit_patch_misfit v p r us ops (Status s name number) f b = absurd b
 commit_patch_misfit v p r us ops (Refused why.NoMemory) f b = absurd b
 commit_patch_misfit v p r us ops (Refused why.LastNumber) f b = absurd b
 commit_patch_misfit v p r us ops (Refused why.WrongPhase) f b = refl
 commit_patch_misfit v p r us ops (Refused why.BadSeat) f b = refl
 commit_patch_misfit v phase.Idle r us ops answer f b = absurd f
-commit_patch_misfit v (phase.Writing j i h) r us ops answer f b = absurd f
-commit_patch_misfit v (phase.Patching t i) r us ops answer f b = absurd f
+commit_patch_misfit v (phase.Writing j i h w) r us ops answer f b = absurd f
+commit_patch_misfit v (phase.Patching t i w) r us ops answer f b = absurd f
 commit_patch_misfit v (phase.Reading l) r us ops answer f b = absurd f
 
 piece_misfit : (v : Totals) (p : SeatView) (n : ℕ) (out due : List ℕ) (answer : Answer) → FitsSeat v p (Piece n) answer → IsBroken (at_piece out due answer) → is_misfit answer ≡ true
@@ -128,8 +128,8 @@ piece_misfit v p n out due (Refused why.NoMemory) f b = absurd b
 piece_misfit v p n out due (Refused why.WrongPhase) f b = refl
 piece_misfit v p n out due (Refused why.BadSeat) f b = refl
 piece_misfit v phase.Idle n out due answer f b = absurd f
-piece_misfit v (phase.Writing j i h) n out due answer f b = absurd f
-piece_misfit v (phase.Patching t i) n out due answer f b = absurd f
+piece_misfit v (phase.Writing j i h w) n out due answer f b = absurd f
+piece_misfit v (phase.Patching t i w) n out due answer f b = absurd f
 piece_misfit v (phase.Reading l) n out due answer f b = absurd f
 
 cancel_misfit : (v : Totals) (p : SeatView) (c d : Course) (answer : Answer) → (IsBroken d → ⊥) → FitsSeat v p Cancel answer → IsBroken (at_cancel c d answer) → is_misfit answer ≡ true
@@ -137,17 +137,17 @@ cancel_misfit v p c d Cancelled n f b = absurd (n b)
 cancel_misfit v p c d (Refused why.WrongPhase) n f b = refl
 cancel_misfit v p c d (Refused why.BadSeat) n f b = refl
 cancel_misfit v phase.Idle c d answer n f b = absurd f
-cancel_misfit v (phase.Writing j i h) c d answer n f b = absurd f
-cancel_misfit v (phase.Patching t i) c d answer n f b = absurd f
+cancel_misfit v (phase.Writing j i h w) c d answer n f b = absurd f
+cancel_misfit v (phase.Patching t i w) c d answer n f b = absurd f
 cancel_misfit v (phase.Reading l) c d answer n f b = absurd f
 
 cancelled : (s : ℕ) (c d : Course) (answer : Answer) → (IsBroken d → ⊥) → IsOfKind (Seat s Cancel) answer → IsBroken (at_cancel c d answer) → is_misfit answer ≡ true
 cancelled s c d answer n k b = of_kind s Cancel answer k (λ v p f. cancel_misfit v p c d answer n f b)
 
 first_misfit : (a : Asked) (s : ℕ) (p : Plan) (m : Move) → AreOfKind s (deed_of m) → IsBroken (first a p m) → HasMisfit (deed_of m)
-first_misfit a s (Uploads k) (Did (Open j) answer) o b = inl (of_kind s (Open j) answer o.0 (λ v p f. open_misfit v p j answer f b))
-first_misfit a s (Patches t) (Did (OpenPatch u) answer) o b = inl (of_kind s (OpenPatch u) answer o.0 (λ v p f. open_patch_misfit v p u answer f b))
-first_misfit a s (Deletes t) (Did (Delete u) answer) o b = inl (of_kind s (Delete u) answer o.0 (λ v p f. delete_misfit v p u answer f b))
+first_misfit a s (Uploads k since) (Did (Open j given) answer) o b = inl (of_kind s (Open j given) answer o.0 (λ v p f. open_misfit v p j given answer f b))
+first_misfit a s (Patches t since) (Did (OpenPatch u given) answer) o b = inl (of_kind s (OpenPatch u given) answer o.0 (λ v p f. open_patch_misfit v p u given answer f b))
+first_misfit a s (Deletes t since) (Did (Delete u given) answer) o b = inl (of_kind s (Delete u given) answer o.0 (λ v p f. delete_misfit v p u given answer f b))
 first_misfit a s (Looks t) (Did (Head u) answer) o b = inl (of_kind s (Head u) answer o.0 (λ v p f. head_misfit v p u answer f b))
 first_misfit a s (Reads t) (Did (Pin u) answer) o b = inl (of_kind s (Pin u) answer o.0 (λ v p f. pin_misfit a v p u answer f b))
 first_misfit a s p Short o b = absurd b
@@ -189,11 +189,11 @@ after_misfit a s (Cutting out) m o b = absurd b
 after_misfit a s (Early l) m o b = inl (ready_misfit (Early l) m b)
 after_misfit a s (Late l) m o b = inl (ready_misfit (Late l) m b)
 after_misfit a s (Dropped r) m o b = inl (ready_misfit (Dropped r) m b)
-after_misfit a s (Wrote r g st n) m o b = inl (ready_misfit (Wrote r g st n) m b)
-after_misfit a s (Patched r ops st) m o b = inl (ready_misfit (Patched r ops st) m b)
-after_misfit a s (Erased st) m o b = inl (ready_misfit (Erased st) m b)
-after_misfit a s (Looked st) m o b = inl (ready_misfit (Looked st) m b)
-after_misfit a s (Missing st) m o b = inl (ready_misfit (Missing st) m b)
+after_misfit a s (Wrote r g st name number) m o b = inl (ready_misfit (Wrote r g st name number) m b)
+after_misfit a s (Patched r ops st number) m o b = inl (ready_misfit (Patched r ops st number) m b)
+after_misfit a s (Erased st number) m o b = inl (ready_misfit (Erased st number) m b)
+after_misfit a s (Looked st number) m o b = inl (ready_misfit (Looked st number) m b)
+after_misfit a s (Missing st number) m o b = inl (ready_misfit (Missing st number) m b)
 after_misfit a s c m o b = absurd b
 
 pub misfit-append : (d f : Deeds) → HasMisfit d ⊎ HasMisfit f → HasMisfit (d ++ f)

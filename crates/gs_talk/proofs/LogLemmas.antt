@@ -32,15 +32,15 @@ of-whole (Faulty front s) P Q f o = absurd o
 of-whole (Unended front ended) P Q f o = absurd o
 
 wrote_points : (base : List ℕ) (a : Asked) (b : BodyState) (p : Plan) (r : ℕ) (g : List RdfTriple) → OfWhole b (λ body. States base a r body g) → OwnPoints base a b p (written_by p r g)
-wrote_points base a b (Uploads k) r g o = of-whole b (λ body. States base a r body g) _ (λ body s. (g, s, refl)) o
+wrote_points base a b (Uploads k since) r g o = of-whole b (λ body. States base a r body g) _ (λ body s. (g, s, refl)) o
 wrote_points base a b p r g o = tt
 
 patched_points : (base : List ℕ) (a : Asked) (b : BodyState) (p : Plan) (r : ℕ) (ops : List Op) → OfWhole b (λ body. Orders base a r body ops) → OwnPoints base a b p (patched_by p r ops)
-patched_points base a b (Patches t) r ops o = of-whole b (λ body. Orders base a r body ops) _ (λ body s. (ops, s, refl)) o
+patched_points base a b (Patches t since) r ops o = of-whole b (λ body. Orders base a r body ops) _ (λ body s. (ops, s, refl)) o
 patched_points base a b p r ops o = tt
 
 erased_points : (base : List ℕ) (a : Asked) (b : BodyState) (p : Plan) → IsWhole b → OwnPoints base a b p (erased_by p)
-erased_points base a b (Deletes t) o = of-whole b (λ body. Unit {0}) _ (λ body s. refl) o
+erased_points base a b (Deletes t since) o = of-whole b (λ body. Unit {0}) _ (λ body s. refl) o
 erased_points base a b p o = tt
 
 looked_points : (base : List ℕ) (a : Asked) (b : BodyState) (p : Plan) → IsWhole b → OwnPoints base a b p (looked_by p)
@@ -52,11 +52,11 @@ read_points base a b (Reads t) o = of-whole b (λ body. Unit {0}) _ (λ body s. 
 read_points base a b p o = tt
 
 own_points : (base : List ℕ) (a : Asked) (b : BodyState) (p : Plan) (c : Course) → IsOwn base a b c → OwnPoints base a b p (operations_at p c)
-own_points base a b p (Wrote r g s name) o = wrote_points base a b p r g o
-own_points base a b p (Patched r ops s) o = patched_points base a b p r ops o
-own_points base a b p (Erased s) o = erased_points base a b p o
-own_points base a b p (Looked s) o = looked_points base a b p o
-own_points base a b p (Missing s) o = read_points base a b p o
+own_points base a b p (Wrote r g s name number) o = wrote_points base a b p r g o
+own_points base a b p (Patched r ops s number) o = patched_points base a b p r ops o
+own_points base a b p (Erased s number) o = erased_points base a b p o
+own_points base a b p (Looked s number) o = looked_points base a b p o
+own_points base a b p (Missing s number) o = read_points base a b p o
 own_points base a b p (Held out due end) o = read_points base a b p o
 own_points base a b p (Cutting out) o = read_points base a b p o
 own_points base a b p (Cut out) o = read_points base a b p o
@@ -105,11 +105,11 @@ settled base a b p (Early Numbers) t s = (tt, inl refl)
 settled base a b p (Late Memory) t s = (tt, inl refl)
 settled base a b p (Late Numbers) t s = (tt, inl refl)
 settled base a b p (Dropped r) t s = (tt, inl refl)
-settled base a b p (Wrote r g st name) t s = (tt, inl refl)
-settled base a b p (Patched r ops st) t s = (tt, inl refl)
-settled base a b p (Erased st) t s = (tt, inl refl)
-settled base a b p (Looked st) t s = (tt, inl refl)
-settled base a b p (Missing st) t s = (tt, inl refl)
+settled base a b p (Wrote r g st name number) t s = (tt, inl refl)
+settled base a b p (Patched r ops st number) t s = (tt, inl refl)
+settled base a b p (Erased st number) t s = (tt, inl refl)
+settled base a b p (Looked st number) t s = (tt, inl refl)
+settled base a b p (Missing st number) t s = (tt, inl refl)
 settled base a b p (Held out due true) t s = (tt, inl refl)
 settled base a b p (Cut out) t s = (tt, inl refl)
 settled base a b p (Mute c) t s = (tt, go (settled base a b p c s.0.0 s.0.1).1) where

@@ -39,8 +39,8 @@ rejection_status (Some (Broken f)) = Some 400
 
 -- the statuses of a body that is no document, or no update that is served
 abbrev pub refusal_at : List ℕ → Asked → Plan → ℕ → List ℕ → Option ℕ
-refusal_at base a (Uploads k) r body = fault_status (meaning_in (document_language a.body) (text_base base a.graph) r body).1
-refusal_at base a (Patches t) r body = rejection_status (request_by (text_base base a.graph) r body).1
+refusal_at base a (Uploads k since) r body = fault_status (meaning_in (document_language a.body) (text_base base a.graph) r body).1
+refusal_at base a (Patches t since) r body = rejection_status (request_by (text_base base a.graph) r body).1
 refusal_at base a p r body = None
 
 -- a meaning without a fault, of exactly these triples in their order

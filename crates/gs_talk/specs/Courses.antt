@@ -32,16 +32,16 @@ pub data Course : Type 0 where
   Late : (lack : Lack) → Course
   -- cancelled, and nothing was refused
   Dropped : (request : ℕ) → Course
-  -- the Commit was answered
-  Wrote : (request : ℕ) (staged : List RdfTriple) (status : ℕ) (name : Option GraphName) → Course
+  -- the Commit was answered, by this status, the name of a graph that was made up, if one was, and this commit number
+  Wrote : (request : ℕ) (staged : List RdfTriple) (status : ℕ) (name : Option GraphName) (number : ℕ) → Course
   -- the CommitPatch was answered
-  Patched : (request : ℕ) (operations : List Op) (status : ℕ) → Course
+  Patched : (request : ℕ) (operations : List Op) (status number : ℕ) → Course
   -- the Delete was answered
-  Erased : (status : ℕ) → Course
+  Erased : (status number : ℕ) → Course
   -- the Head was answered
-  Looked : (status : ℕ) → Course
+  Looked : (status number : ℕ) → Course
   -- the Pin was answered without a read
-  Missing : (status : ℕ) → Course
+  Missing : (status number : ℕ) → Course
   -- a read: this was said before its last move, this is due by it or was said too, and whether that is all
   Held : (out due : List ℕ) (end : Bool) → Course
   -- a read that cannot go on: a Cancel is due

@@ -1,8 +1,9 @@
 -- What a course says of the seat: its phase, and what the abstract store was asked.
-use Rattle.std.specs.Prelude.{ℕ, false, List, [], ◌∷◌}
+use Rattle.std.specs.Prelude.{ℕ, false, List, [], ◌∷◌, None}
 use Rattle.gs_model.specs.Triples.{RdfTriple}
 use Rattle.gs_model.specs.Graphs.{graph_of}
 use Rattle.gs_event.specs.declared.updates.Op.{Op}
+use Rattle.gs_event.specs.Conditions.{asked_since}
 use Rattle.gs_event.specs.Phases as phase
 use Rattle.gs_event.specs.Phases.{write_of}
 use Rattle.gs_event.specs.Operations as operation
@@ -12,12 +13,12 @@ use Rattle.gs_talk.specs.Seats.{SeatPhase, Point}
 
 -- an upload of the plan's kind
 abbrev pub writing_phase : Plan → ℕ → List RdfTriple → SeatPhase
-writing_phase (Uploads k) r g = phase.Writing k r (graph_of g)
+writing_phase (Uploads k since) r g = phase.Writing k r (graph_of g) since
 writing_phase p r g = phase.Idle
 
 -- a patch of the plan's target
 abbrev pub patching_phase : Plan → ℕ → SeatPhase
-patching_phase (Patches t) r = phase.Patching t r
+patching_phase (Patches t since) r = phase.Patching t r since
 patching_phase p r = phase.Idle
 
 -- the phase of the seat at a course
@@ -33,36 +34,36 @@ phase_at p c = phase.Idle
 
 -- an upload that was committed
 abbrev pub written_by : Plan → ℕ → List RdfTriple → List Point
-written_by (Uploads k) r g = (r, write_of k r (graph_of g)) ∷ []
+written_by (Uploads k since) r g = (r, asked_since since (write_of k r (graph_of g))) ∷ []
 written_by p r g = []
 
 -- a patch that was
 abbrev pub patched_by : Plan → ℕ → List Op → List Point
-patched_by (Patches t) r ops = (r, operation.Patches t ops) ∷ []
+patched_by (Patches t since) r ops = (r, asked_since since (operation.Patches t ops)) ∷ []
 patched_by p r ops = []
 
 -- a removal
 abbrev pub erased_by : Plan → List Point
-erased_by (Deletes t) = (0, operation.Deletes t) ∷ []
+erased_by (Deletes t since) = (0, asked_since since (operation.Deletes t)) ∷ []
 erased_by p = []
 
 -- a look
 abbrev pub looked_by : Plan → List Point
-looked_by (Looks c) = (0, operation.Looks c) ∷ []
+looked_by (Looks c) = (0, asked_since None (operation.Looks c)) ∷ []
 looked_by p = []
 
 -- a read
 abbrev pub read_by : Plan → List Point
-read_by (Reads c) = (0, operation.Reads c) ∷ []
+read_by (Reads c) = (0, asked_since None (operation.Reads c)) ∷ []
 read_by p = []
 
 -- what the abstract store was asked by the end of a course, with the number of the request
 abbrev pub operations_at : Plan → Course → List Point
-operations_at p (Wrote r g s name) = written_by p r g
-operations_at p (Patched r ops s) = patched_by p r ops
-operations_at p (Erased s) = erased_by p
-operations_at p (Looked s) = looked_by p
-operations_at p (Missing s) = read_by p
+operations_at p (Wrote r g s name number) = written_by p r g
+operations_at p (Patched r ops s number) = patched_by p r ops
+operations_at p (Erased s number) = erased_by p
+operations_at p (Looked s number) = looked_by p
+operations_at p (Missing s number) = read_by p
 operations_at p (Held out due end) = read_by p
 operations_at p (Cutting out) = read_by p
 operations_at p (Cut out) = read_by p

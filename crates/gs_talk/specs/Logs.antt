@@ -39,11 +39,11 @@ deeds log = flat_map (λ e. deeds_of e.moves) log
 abbrev pub texts : Log → List ℕ
 texts log = flat_map (λ e. e.text) log
 
--- an action is the plan's own: its kind and its target or scope are the request's, and a piece has so many lines
+-- an action is the plan's own: its kind, its target or scope, and its condition are the request's, and a piece has so many lines
 abbrev pub Suits : ℕ → Plan → Action → Type 0
-Suits piece p (action.Open k) = p ≡ Uploads k
-Suits piece p (action.OpenPatch t) = p ≡ Patches t
-Suits piece p (action.Delete t) = p ≡ Deletes t
+Suits piece p (action.Open k since) = p ≡ Uploads k since
+Suits piece p (action.OpenPatch t since) = p ≡ Patches t since
+Suits piece p (action.Delete t since) = p ≡ Deletes t since
 Suits piece p (action.Head c) = p ≡ Looks c
 Suits piece p (action.Pin c) = p ≡ Reads c
 Suits piece p (action.Piece n) = n ≡ piece

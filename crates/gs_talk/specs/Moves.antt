@@ -27,18 +27,18 @@ at_open_patch other = Misanswered Fresh
 
 -- after a Delete
 abbrev pub at_delete : Answer → Course
-at_delete (Status s name) = Erased s
+at_delete (Status s name number) = Erased s number
 at_delete (Refused LastNumber) = Late Numbers
 at_delete other = Misanswered Fresh
 
 -- after a Head
 abbrev pub at_head : Answer → Course
-at_head (Status s name) = Looked s
+at_head (Status s name number) = Looked s number
 at_head other = Misanswered Fresh
 
 -- after a Pin: the head of the reply is due, where it reads
 abbrev pub at_pin : Asked → Answer → Course
-at_pin a (Pinned s) = cond (s == 200) (Held [] (lines_head a.reply a.closes) false) (Missing s)
+at_pin a (Pinned s number) = cond (s == 200) (Held [] (lines_head a.reply number a.closes) false) (Missing s number)
 at_pin a other = Misanswered Fresh
 
 -- after a Stage, which is of one triple at least
@@ -50,14 +50,14 @@ at_stage r g (t ∷ ts) other = Misanswered (Writing r g)
 
 -- after a Commit
 abbrev pub course_at_commit : ℕ → List RdfTriple → Answer → Course
-course_at_commit r g (Status s name) = Wrote r g s name
+course_at_commit r g (Status s name number) = Wrote r g s name number
 course_at_commit r g (Refused NoMemory) = Lacking (Writing r g) Memory
 course_at_commit r g (Refused LastNumber) = Lacking (Writing r g) Numbers
 course_at_commit r g other = Misanswered (Writing r g)
 
 -- after the commit of a patch
 abbrev pub at_commit_patch : ℕ → List Op → Answer → Course
-at_commit_patch r ops (Status s name) = Patched r ops s
+at_commit_patch r ops (Status s name number) = Patched r ops s number
 at_commit_patch r ops (Refused NoMemory) = Lacking (Patching r) Memory
 at_commit_patch r ops (Refused LastNumber) = Lacking (Patching r) Numbers
 at_commit_patch r ops other = Misanswered (Patching r)
@@ -79,9 +79,9 @@ at_cancel c d other = Misanswered c
 
 -- the first move, by the plan
 abbrev pub first : Asked → Plan → Move → Course
-first a (Uploads k) (Did (Open j) answer) = at_open answer
-first a (Patches t) (Did (OpenPatch u) answer) = at_open_patch answer
-first a (Deletes t) (Did (Delete u) answer) = at_delete answer
+first a (Uploads k since) (Did (Open j given) answer) = at_open answer
+first a (Patches t since) (Did (OpenPatch u given) answer) = at_open_patch answer
+first a (Deletes t since) (Did (Delete u given) answer) = at_delete answer
 first a (Looks t) (Did (Head u) answer) = at_head answer
 first a (Reads t) (Did (Pin u) answer) = at_pin a answer
 first a p Short = Early Memory
@@ -131,11 +131,11 @@ course_after a (Cutting out) m = cancelling (Cutting out) (Cut out) m
 course_after a (Early l) m = ready (Early l) m
 course_after a (Late l) m = ready (Late l) m
 course_after a (Dropped r) m = ready (Dropped r) m
-course_after a (Wrote r g s n) m = ready (Wrote r g s n) m
-course_after a (Patched r ops s) m = ready (Patched r ops s) m
-course_after a (Erased s) m = ready (Erased s) m
-course_after a (Looked s) m = ready (Looked s) m
-course_after a (Missing s) m = ready (Missing s) m
+course_after a (Wrote r g s name number) m = ready (Wrote r g s name number) m
+course_after a (Patched r ops s number) m = ready (Patched r ops s number) m
+course_after a (Erased s number) m = ready (Erased s number) m
+course_after a (Looked s number) m = ready (Looked s number) m
+course_after a (Missing s number) m = ready (Missing s number) m
 course_after a (Cut out) m = Wrong
 course_after a (Left out) m = Wrong
 course_after a (Mute c) m = Wrong

@@ -27,13 +27,17 @@ data_of (Unended front ended) = front
 abbrev pub Said : Type 0
 Said = List ℕ × Bool
 
--- a reply without a body, with what it says besides its status
-abbrev pub noticed : ℕ → Notice → Bool → Said
-noticed status notice closes = (reply_text status notice closes, not closes)
+-- a reply without a body, with what it says besides its status, and with a commit number, where its status came from the store
+abbrev pub noticed : ℕ → Notice → Option ℕ → Bool → Said
+noticed status notice commit closes = (reply_text status notice commit closes, not closes)
 
--- and one that says no more than that
+-- one that says no more than its status
 abbrev pub plain : ℕ → Bool → Said
-plain status closes = noticed status Nothing closes
+plain status closes = noticed status Nothing None closes
+
+-- and one that says no more than the store did: its status and a commit number
+abbrev pub counted_reply : ℕ → ℕ → Bool → Said
+counted_reply status number closes = noticed status Nothing (Some number) closes
 
 -- of a graph that the store made up a name for, that name
 abbrev pub name_notice : Option GraphName → Notice
@@ -47,7 +51,7 @@ allow_notice (Some methods) = Allows methods
 
 -- the reply to a head that is denied
 abbrev pub denial_reply : Denial → Said
-denial_reply d = noticed d.status (allow_notice d.allow) d.closes
+denial_reply d = noticed d.status (allow_notice d.allow) None d.closes
 
 -- `100 Continue` was due: the body is awaited, and what is to come before it has come
 abbrev pub is_greeted : Asked → Course → Bool
@@ -99,11 +103,11 @@ IsWhole b = OfWhole b (λ body. Unit {0})
 -- What the store was asked, and did, is what the request asks: its body was whole, and the graph or the operations are its
 -- meaning. Where nothing was done, or only opened, it may be anything.
 abbrev pub IsOwn : List ℕ → Asked → BodyState → Course → Type 0
-IsOwn base a b (Wrote r g s name) = OfWhole b (λ body. States base a r body g)
-IsOwn base a b (Patched r ops s) = OfWhole b (λ body. Orders base a r body ops)
-IsOwn base a b (Erased s) = IsWhole b
-IsOwn base a b (Looked s) = IsWhole b
-IsOwn base a b (Missing s) = IsWhole b
+IsOwn base a b (Wrote r g s name number) = OfWhole b (λ body. States base a r body g)
+IsOwn base a b (Patched r ops s number) = OfWhole b (λ body. Orders base a r body ops)
+IsOwn base a b (Erased s number) = IsWhole b
+IsOwn base a b (Looked s number) = IsWhole b
+IsOwn base a b (Missing s number) = IsWhole b
 IsOwn base a b (Held out due end) = IsWhole b
 IsOwn base a b (Cutting out) = IsWhole b
 IsOwn base a b (Cut out) = IsWhole b
@@ -133,11 +137,12 @@ Settles base a b (Early Numbers) t = t ≡ plain 507 (ends_early a)
 Settles base a b (Late Memory) t = t ≡ plain 503 true
 Settles base a b (Late Numbers) t = OfWhole b (λ body. (r : ℕ) × (refusal_at base a (plan_of a) r body ≡ None)) × (t ≡ plain 507 a.closes)
 Settles base a b (Dropped r) t = SettlesDropped base a r b t
-Settles base a b (Wrote r g s name) t = t ≡ noticed s (name_notice name) a.closes
-Settles base a b (Patched r ops s) t = t ≡ plain s a.closes
-Settles base a b (Erased s) t = t ≡ plain s a.closes
-Settles base a b (Looked s) t = t ≡ cond (s == 200) (lines_head a.reply a.closes, not a.closes) (plain s a.closes)
-Settles base a b (Missing s) t = t ≡ plain s a.closes
+Settles base a b (Wrote r g s name number) t = t ≡ noticed s (name_notice name) (Some number) a.closes
+Settles base a b (Patched r ops s number) t = t ≡ counted_reply s number a.closes
+Settles base a b (Erased s number) t = t ≡ counted_reply s number a.closes
+Settles base a b (Looked s number) t =
+    t ≡ cond (s == 200) (lines_head a.reply number a.closes, not a.closes) (counted_reply s number a.closes)
+Settles base a b (Missing s number) t = t ≡ counted_reply s number a.closes
 Settles base a b (Held out due true) t = t ≡ (out ++ due, not a.closes)
 Settles base a b (Cut out) t = t ≡ (out, false)
 Settles base a b (Mute c) t = ((u : Said) × Settles base a b c u) × (t ≡ stopped)

@@ -3,8 +3,8 @@ use Rattle.std.specs.Prelude.{ℕ, List, [], ◌∷◌, Option, None, Some}
 use Rattle.std.specs.List.{cons_option}
 use Rattle.gs_event.specs.declared.events.Action.{Action}
 use Rattle.gs_event.specs.declared.answers.Answer.{Answer}
+use Rattle.gs_event.specs.Conditions.{Asked}
 use Rattle.gs_event.specs.Phases.{Phase, Writing, Patching, phase_after, operation_of}
-use Rattle.gs_event.specs.Operations.{Operation}
 
 -- each action of the seat with its answer, the oldest first
 abbrev pub Deeds : Type 0
@@ -23,18 +23,18 @@ abbrev pub phase_in : SeatPhase → Deeds → SeatPhase
 phase_in p [] = p
 phase_in p (d ∷ ds) = phase_in (phase_then p d) ds
 
--- what the abstract store is asked, with the number of the request that opened it, 0 where none did
+-- what the abstract store is asked, and on which condition, with the number of the request that opened it, 0 where none did
 abbrev pub Point : Type 0
-Point = ℕ × Operation
+Point = ℕ × Asked
 
 -- the number of the request that opened what the seat is doing
 abbrev pub opened_number : SeatPhase → ℕ
-opened_number (Writing k r g) = r
-opened_number (Patching t r) = r
+opened_number (Writing k r g since) = r
+opened_number (Patching t r since) = r
 opened_number p = 0
 
--- an operation with that number
-abbrev pub point_numbered : SeatPhase → Option Operation → Option Point
+-- that with this number
+abbrev pub point_numbered : SeatPhase → Option Asked → Option Point
 point_numbered p None = None
 point_numbered p (Some q) = Some (opened_number p, q)
 

@@ -1,8 +1,9 @@
 //! Laws of the definitions, proved: each body is empty, and the contract is the law.
 ghost use Rattle.gs_talk.specs.Laws.{PointsAreAsks, RestsIdle};
 
-/// What the abstract store is asked in a conversation is what its requests ask, in their order, each
-/// at most once: a graph or operations that a body means, under the number that the store gave to it.
+/// What the abstract store is asked in a conversation is what its requests ask, on the conditions that
+/// they have, in their order, each at most once: a graph or operations that a body means, under the
+/// number that the store gave to it.
 pub fn points_are_asks()
     ensures { PointsAreAsks }
 {}

@@ -1,9 +1,12 @@
 -- The tests of the checks of a head.
-use Rattle.std.specs.Prelude.{ℕ, Bool, true, false, not, nat_lt, Option, Some, None}
+use Rattle.std.specs.Prelude.{ℕ, Bool, true, false, not, nat_lt, if◌then◌else◌, List, Option, Some, None}
 use Rattle.gs_http.specs.declared.framing.Framing.{Framing}
 use Rattle.gs_http.specs.declared.framing.Framing.TheVariants as framing
 use Rattle.gs_http.specs.Limits.{max_body_bytes, max_patch_bytes}
 use Rattle.gs_http.specs.Framing.{announces}
+use Rattle.gs_http.specs.declared.conditions.Since.{Since}
+use Rattle.gs_http.specs.declared.conditions.Since.TheVariants as since
+use Rattle.gs_http.specs.Conditions.{since_of}
 use Rattle.gs_term.specs.declared.names.Target.{Target}
 use Rattle.gs_names.specs.declared.targets.Goal.{Goal}
 use Rattle.gs_names.specs.declared.targets.Goal.TheVariants as goal
@@ -65,6 +68,31 @@ abbrev pub takes_reply : Method → Option ReplyType → Bool
 takes_reply Get reply = is_chosen reply
 takes_reply Head reply = is_chosen reply
 takes_reply m reply = true
+
+-- a graph, and not the store itself
+abbrev pub is_graph : Goal → Bool
+is_graph (goal.Graph t) = true
+is_graph other = false
+
+-- a write of a graph may have a condition; a question has none, and a POST to the store itself has none
+abbrev pub has_condition : Method → Goal → Bool
+has_condition Get g = false
+has_condition Head g = false
+has_condition m g = is_graph g
+
+-- the condition, by the values of its field
+abbrev pub since_asked : Method → Goal → List (List ℕ) → Since
+since_asked m g vs = if has_condition m g then since_of vs else since.Absent
+
+-- a condition that is not one number
+abbrev pub is_malformed_since : Since → Bool
+is_malformed_since since.Malformed = true
+is_malformed_since other = false
+
+-- the number of the commit after which the graph must not have been written
+abbrev pub condition_in : Since → Option ℕ
+condition_in (since.Commit n) = Some n
+condition_in other = None
 
 -- the most bytes of the method's body
 abbrev pub limit_of : Method → ℕ

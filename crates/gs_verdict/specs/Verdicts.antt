@@ -13,6 +13,7 @@ use Rattle.gs_verdict.specs.declared.verdicts.Verdict.{Verdict}
 use Rattle.gs_verdict.specs.declared.verdicts.Verdict.TheVariants.{Deny, Ask}
 use Rattle.gs_verdict.specs.Methods.{method_of, allow_of, is_allowed}
 use Rattle.gs_verdict.specs.Checks.{is_malformed, is_unknown, is_malformed_goal, is_missing, takes_type, takes_reply, limit_of, is_over, media_of_body, type_of_reply, graph_of_goal}
+use Rattle.gs_verdict.specs.Checks.{since_asked, is_malformed_since, condition_in}
 
 -- what the checks read of a head: its values are a function of the names
 pub record Seen : Type 0 where
@@ -53,17 +54,19 @@ asked s g m = Ask (record {
   body = media_of_body m (body_type_of (s.values (codes "content-type")));
   reply = type_of_reply m (reply_type_of g (s.values (codes "accept")));
   framing = framing_of s.values;
+  since = condition_in (since_asked m g (s.values (codes "if-store-commit")));
   awaits_continue = awaits_continue s;
   closes = closes s.values;
 })
 
--- method, body type, Accept, Content-Length
+-- method, body type, Accept, the condition of a write, Content-Length
 abbrev pub judged_method : Seen → Goal → Option Method → Verdict
 judged_method s g None = not_allowed s g
 judged_method s g (Some m) =
     if not (is_allowed (allow_of g) m) then not_allowed s g
     else if not (takes_type m (body_type_of (s.values (codes "content-type"))) (framing_of s.values)) then denied s 415
     else if not (takes_reply m (reply_type_of g (s.values (codes "accept")))) then denied s 406
+    else if is_malformed_since (since_asked m g (s.values (codes "if-store-commit"))) then denied s 400
     else if is_over (limit_of m) (framing_of s.values) then denied s 413
     else asked s g m
 

@@ -6,7 +6,7 @@ ghost use Rattle.gs_names.specs.Accepts.{reply_type_of};
 ghost use Rattle.gs_verdict.specs.Checks as spec;
 
 use crate::methods::Method;
-use gs_http::Framing;
+use gs_http::{Framing, Since, read_since};
 use gs_names::{BodyType, Goal, Media, ReplyType, body_type, reply_type};
 use gs_term::Target;
 use http_header::HeaderMap;
@@ -93,6 +93,45 @@ pub fn takes_reply(kept: &HeaderMap<&[u8]>, goal: &Goal, method: Method) -> bool
         Method::Get => is_chosen(reply_type(kept, goal)),
         Method::Head => is_chosen(reply_type(kept, goal)),
         _ => true,
+    }
+}
+
+/// Whether the request may have a condition: it is a write of a graph.
+fn has_condition(method: Method, goal: &Goal) -> bool
+    ensures { result ≡ spec.has_condition method goal.now }
+{
+    match method {
+        Method::Get | Method::Head => false,
+        _ => matches!(goal, Goal::Graph(_)),
+    }
+}
+
+/// The condition of the request. Of one that may have none the field is not read.
+pub fn since_asked(kept: &HeaderMap<&[u8]>, goal: &Goal, method: Method) -> Since
+    ensures { result
+        ≡ spec.since_asked method goal.now (kept_under kept.now (codes "if-store-commit")) }
+{
+    if has_condition(method, goal) {
+        read_since(kept)
+    } else {
+        Since::Absent
+    }
+}
+
+/// Whether the condition is not one number.
+pub fn is_malformed_since(since: Since) -> bool
+    ensures { result ≡ spec.is_malformed_since since }
+{
+    matches!(since, Since::Malformed)
+}
+
+/// The number of the commit after which the graph must not have been written.
+pub fn condition_in(since: Since) -> Option<u64>
+    ensures { result ≡ spec.condition_in since }
+{
+    match since {
+        Since::Commit(number) => Some(number),
+        _ => None,
     }
 }
 

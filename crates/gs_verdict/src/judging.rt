@@ -1,15 +1,17 @@
 //! The checks of a head, in their order.
-ghost use Rattle.std.specs.Prelude.{◌≡◌, IfOk, Some};
+ghost use Rattle.std.specs.Prelude.{◌≡◌, codes, IfOk, Some};
+ghost use Rattle.gs_http.specs.Fields.{kept_under};
+ghost use Rattle.gs_verdict.specs.Checks.{since_asked};
 ghost use Rattle.gs_verdict.specs.Verdicts as spec;
 ghost use Rattle.gs_verdict.specs.Verdicts.{seen};
 
 use crate::checks::{
-    graph_of_goal, is_malformed, is_malformed_goal, is_missing, is_over, is_unknown, media_of_body,
-    takes_reply, takes_type, type_of_reply,
+    condition_in, graph_of_goal, is_malformed, is_malformed_goal, is_malformed_since, is_missing,
+    is_over, is_unknown, media_of_body, since_asked, takes_reply, takes_type, type_of_reply,
 };
 use crate::methods::{Allow, Method, read_method};
 use crate::verdicts::{Asked, Denial, Verdict};
-use gs_http::{Head, body_framing, closes, expects_continue, has_one_host};
+use gs_http::{Head, Since, body_framing, closes, expects_continue, has_one_host};
 use gs_names::{Goal, Places, read_target};
 use std::alloc::{AllocError, Global};
 
@@ -56,7 +58,10 @@ fn awaits_continue(head: &Head<'_>) -> bool
     expects_continue(&head.fields) && body_framing(&head.fields).announces()
 }
 
-fn asked(head: &Head<'_>, goal: Goal, method: Method) -> Verdict
+/// What is asked, with a condition that was read.
+fn asked(head: &Head<'_>, goal: Goal, method: Method, since: Since) -> Verdict
+    requires { since
+        ≡ since_asked method goal (kept_under head.now.fields (codes "if-store-commit")) }
     ensures { result ≡ spec.asked (seen head.now) goal method }
 {
     let reply = type_of_reply(&head.fields, &goal, method);
@@ -66,6 +71,7 @@ fn asked(head: &Head<'_>, goal: Goal, method: Method) -> Verdict
         body: media_of_body(&head.fields, method),
         reply,
         framing: body_framing(&head.fields),
+        since: condition_in(since),
         awaits_continue: awaits_continue(head),
         closes: closes(&head.fields),
     })
@@ -75,16 +81,19 @@ fn judge_method(head: &Head<'_>, goal: Goal, method: Method) -> Verdict
     ensures { result ≡ spec.judged_method (seen head.now) goal (Some method) }
 {
     let framing = body_framing(&head.fields);
+    let since = since_asked(&head.fields, &goal, method);
     if !Allow::of(&goal).has(method) {
         not_allowed(head, &goal)
     } else if !takes_type(&head.fields, method, framing) {
         denied(head, 415)
     } else if !takes_reply(&head.fields, &goal, method) {
         denied(head, 406)
+    } else if is_malformed_since(since) {
+        denied(head, 400)
     } else if is_over(method, framing) {
         denied(head, 413)
     } else {
-        asked(head, goal, method)
+        asked(head, goal, method, since)
     }
 }
 

@@ -25,6 +25,9 @@ pub struct Asked {
     /// The type of the reply's lines; N-Triples where it has none.
     pub reply: ReplyType,
     pub framing: Framing,
+    /// The condition of a write: the number of the commit after which the graph must not have been
+    /// written.
+    pub since: Option<u64>,
     /// The client waits for `100 Continue` before it sends the body.
     pub awaits_continue: bool,
     /// The connection ends after the reply.

@@ -12,7 +12,7 @@ use Rattle.gs_event.specs.declared.events.Action.{Action}
 use Rattle.gs_event.specs.declared.events.Action.TheVariants.{Open, OpenPatch, Stage, Commit, CommitPatch, Delete, Head, Pin, Piece, Cancel}
 use Rattle.gs_event.specs.declared.answers.Answer.{Answer}
 use Rattle.gs_event.specs.declared.answers.Answer.TheVariants.{Opened, Staged, Status, Pinned, Lines, Cancelled, Refused}
-use Rattle.gs_event.specs.Operations.{Operation}
+use Rattle.gs_event.specs.Conditions.{Asked}
 use Rattle.gs_event.specs.Phases.{Phase, Idle, Writing, Patching, Reading, operation_of}
 use Rattle.gs_event.specs.Views.{SeatView, Fits, FitsSeat}
 use Rattle.gs_event.specs.Histories.{History, OpenRead, Start, IsLegal, phase_of, phase_by, operation_by, points_of, seat_view, view_of}
@@ -27,8 +27,8 @@ use Rattle.gs_world.specs.Merging.{Askings, asked_at, points_by, IsMerged}
 -- a phase, where it is not said what is left of a read
 abbrev seat_phase : Phase OpenRead → SeatPhase
 seat_phase Idle = Idle
-seat_phase (Writing k r g) = Writing k r g
-seat_phase (Patching t r) = Patching t r
+seat_phase (Writing k r g since) = Writing k r g since
+seat_phase (Patching t r since) = Patching t r since
 seat_phase (Reading read) = Reading tt
 
 pin_phase : (b : Bool) (read : OpenRead) → seat_phase (cond b (Reading read) Idle) ≡ cond b (Reading tt) Idle
@@ -41,14 +41,14 @@ piece_phase false read = refl
 
 -- after one more answer
 then_phase : (before : History) (p : Phase OpenRead) (action : Action) (a : Answer) → seat_phase (later before p action a) ≡ phase_then (seat_phase p) (action, a)
-then_phase before Idle (Open k) (Opened r) = refl
-then_phase before Idle (OpenPatch t) (Opened r) = refl
-then_phase before Idle (Pin c) (Pinned s) = pin_phase (nat_eq s 200) record { scope = c; before = before; given = 0 }
-then_phase before (Writing k r g) (Stage ts) Staged = refl
-then_phase before (Writing k r g) Commit (Status s name) = refl
-then_phase before (Writing k r g) Cancel Cancelled = refl
-then_phase before (Patching t r) (CommitPatch ops) (Status s name) = refl
-then_phase before (Patching t r) Cancel Cancelled = refl
+then_phase before Idle (Open k since) (Opened r) = refl
+then_phase before Idle (OpenPatch t since) (Opened r) = refl
+then_phase before Idle (Pin c) (Pinned s number) = pin_phase (nat_eq s 200) record { scope = c; before = before; given = 0 }
+then_phase before (Writing k r g since) (Stage ts) Staged = refl
+then_phase before (Writing k r g since) Commit (Status s name number) = refl
+then_phase before (Writing k r g since) Cancel Cancelled = refl
+then_phase before (Patching t r since) (CommitPatch ops) (Status s name number) = refl
+then_phase before (Patching t r since) Cancel Cancelled = refl
 then_phase before (Reading read) (Piece n) (Lines b end) = piece_phase end record { scope = read.scope; before = read.before; given = read.given + n }
 then_phase before (Reading read) Cancel Cancelled = refl
 then_phase before p action a = refl
@@ -70,11 +70,11 @@ history_phase seat (x ∷ before) =
 
 -- it asks the same
 same_operation : (p : Phase OpenRead) (action : Action) (a : Answer) → operation_of (seat_phase p) action a ≡ operation_of p action a
-same_operation Idle (Delete t) (Status s name) = refl
-same_operation Idle (Head c) (Status s name) = refl
-same_operation Idle (Pin c) (Pinned s) = refl
-same_operation (Writing k r g) Commit (Status s name) = refl
-same_operation (Patching t r) (CommitPatch ops) (Status s name) = refl
+same_operation Idle (Delete t since) (Status s name number) = refl
+same_operation Idle (Head c) (Status s name number) = refl
+same_operation Idle (Pin c) (Pinned s number) = refl
+same_operation (Writing k r g since) Commit (Status s name number) = refl
+same_operation (Patching t r since) (CommitPatch ops) (Status s name number) = refl
 same_operation p action a = refl
 
 -- what events ask
@@ -100,10 +100,10 @@ all_asked (x ∷ before) = all_asked before ++ asked_then before x.0 x.1
 
 -- their operations are the points of the history
 
-abbrev operation_in : ℕ × Point → Operation
+abbrev operation_in : ℕ × Point → Asked
 operation_in x = x.1.1
 
-seat_operations : (s : ℕ) (p : SeatPhase) (o : Option Operation) → map operation_in (at_seat s (point_numbered p o)) ≡ cons_option o []
+seat_operations : (s : ℕ) (p : SeatPhase) (o : Option Asked) → map operation_in (at_seat s (point_numbered p o)) ≡ cons_option o []
 seat_operations s p None = refl
 seat_operations s p (Some q) = refl
 
@@ -112,9 +112,9 @@ event_operations before (Reclaim n) a = refl
 event_operations before (Seat s action) a =
     seat_operations s (phase_in Idle (deeds_at s before)) (operation_of (phase_in Idle (deeds_at s before)) action a)
     ∙ ap (λ (p : SeatPhase). cons_option (operation_of p action a) []) (sym (history_phase s before))
-    ∙ ap (λ (o : Option Operation). cons_option o []) (same_operation (phase_of before s) action a)
+    ∙ ap (λ (o : Option Asked). cons_option o []) (same_operation (phase_of before s) action a)
 
-reverse_more : (o : Option Operation) (qs : List Operation) → reverse qs ++ cons_option o [] ≡ reverse (cons_option o qs)
+reverse_more : (o : Option Asked) (qs : List Asked) → reverse qs ++ cons_option o [] ≡ reverse (cons_option o qs)
 reverse_more None qs = append-nil (reverse qs)
 reverse_more (Some q) qs = sym (reverse-append (q ∷ []) qs)
 
@@ -122,8 +122,8 @@ all_operations : (h : History) → map operation_in (all_asked h) ≡ reverse (p
 all_operations [] = refl
 all_operations (x ∷ before) =
     map-append operation_in (all_asked before) (asked_then before x.0 x.1)
-    ∙ ap (λ (qs : List Operation). map operation_in (all_asked before) ++ qs) (event_operations before x.0 x.1)
-    ∙ ap (λ (qs : List Operation). qs ++ cons_option (operation_by before x.0 x.1) []) (all_operations before)
+    ∙ ap (λ (qs : List Asked). map operation_in (all_asked before) ++ qs) (event_operations before x.0 x.1)
+    ∙ ap (λ (qs : List Asked). qs ++ cons_option (operation_by before x.0 x.1) []) (all_operations before)
     ∙ reverse_more (operation_by before x.0 x.1) (points_of before)
 
 -- those of a seat are what it asked
@@ -162,11 +162,11 @@ all_points seat (x ∷ before) =
 -- each is of a seat that is there
 
 refused_asks : (p : SeatPhase) (action : Action) (why : Refusal) → operation_of p action (Refused why) ≡ None
-refused_asks Idle (Delete t) why = refl
+refused_asks Idle (Delete t since) why = refl
 refused_asks Idle (Head c) why = refl
 refused_asks Idle (Pin c) why = refl
-refused_asks (Writing k r g) Commit why = refl
-refused_asks (Patching t r) (CommitPatch ops) why = refl
+refused_asks (Writing k r g since) Commit why = refl
+refused_asks (Patching t r since) (CommitPatch ops) why = refl
 refused_asks p action why = refl
 
 place_below : {X : Type 0} (f : ℕ → X) (a n s : ℕ) (x : X) → slice_get (map f (range_with_len a n)) s ≡ Some x → s < n
@@ -190,14 +190,14 @@ event_below start before (Reclaim n) a f = none_below start.seats
 event_below start before (Seat s action) a f = go (slice_get (view_of start before).seats s) refl f where
   refused : a ≡ Refused BadSeat → AreBelow start.seats (at_seat s (asks (phase_in Idle (deeds_at s before)) action a))
   refused e =
-      subst (λ (o : Option Operation). AreBelow start.seats (at_seat s (point_numbered (phase_in Idle (deeds_at s before)) o)))
+      subst (λ (o : Option Asked). AreBelow start.seats (at_seat s (point_numbered (phase_in Idle (deeds_at s before)) o)))
       (sym (ap (λ (b : Answer). operation_of (phase_in Idle (deeds_at s before)) action b) e ∙ refused_asks (phase_in Idle (deeds_at s before)) action BadSeat))
       (none_below start.seats)
 
   go : (o : Option SeatView) → slice_get (view_of start before).seats s ≡ o → MatchOption o (a ≡ Refused BadSeat) (λ v. FitsSeat (view_of start before).totals v action a)
       → AreBelow start.seats (at_seat s (asks (phase_in Idle (deeds_at s before)) action a))
   go None e k = refused k
-  go (Some v) e k = seat_below start.seats s (asks (phase_in Idle (deeds_at s before)) action a) (place_below (λ (n : ℕ). seat_view start.setting (phase_of before n)) 0 start.seats s v e)
+  go (Some v) e k = seat_below start.seats s (asks (phase_in Idle (deeds_at s before)) action a) (place_below (λ (n : ℕ). seat_view start (phase_of before n)) 0 start.seats s v e)
 
 all_below : (start : Start) (h : History) → IsLegal start h → AreBelow start.seats (all_asked h)
 all_below start [] legal = none_below start.seats

@@ -11,7 +11,7 @@ use Rattle.gs_model.specs.Graphs.{triples_of, graph_of}
 use Rattle.gs_model.proofs.GraphLemmas.{triple_total, triples_of-empty}
 use Rattle.gs_event.specs.declared.events.UploadKind.{UploadKind}
 use Rattle.gs_event.specs.declared.events.UploadKind.TheVariants.{Put, Post, New}
-use Rattle.gs_event.specs.Operations.{Operation}
+use Rattle.gs_event.specs.Conditions.{Asked as AskedOfStore}
 use Rattle.gs_event.specs.Phases.{Idle, write_of}
 use Rattle.gs_event.specs.Histories.{History}
 use Rattle.gs_upload.specs.declared.languages.Language.TheVariants.{NTriples, Turtle}
@@ -64,31 +64,31 @@ write_own (Post t) r g h = graph_keeps (HasOwn r) g h
 write_own New r g h = graph_keeps (HasOwn r) g h
 
 -- so is each of what a request asks by its plan
-asked_own : (base : List ℕ) (a : Asked) (body : List ℕ) (p : Plan) (q : Point) → IsAskedBy base a body p q → BringsOwn q.0 q.1
-asked_own base a body (Uploads k) q m =
-    subst (λ (o : Operation). BringsOwn q.0 o) (sym m.2)
+asked_own : (base : List ℕ) (a : Asked) (body : List ℕ) (p : Plan) (q : Point) → IsAskedBy base a body p q → BringsOwn q.0 q.1.operation
+asked_own base a body (Uploads k since) q m =
+    subst (λ (o : AskedOfStore). BringsOwn q.0 o.operation) (sym m.2)
     (write_own k q.0 m.0 (All-same (HasOwn q.0) m.0 _ m.1.1 (documents_own (document_language a.body) (text_base base a.graph) q.0 body)))
-asked_own base a body (Patches t) q m = subst (λ (o : Operation). BringsOwn q.0 o) (sym m.2) (update_own (text_base base a.graph) q.0 body m.0 m.1)
-asked_own base a body (Deletes t) q m = subst (λ (o : Operation). BringsOwn q.0 o) (sym m) tt
-asked_own base a body (Looks c) q m = subst (λ (o : Operation). BringsOwn q.0 o) (sym m) tt
-asked_own base a body (Reads c) q m = subst (λ (o : Operation). BringsOwn q.0 o) (sym m) tt
+asked_own base a body (Patches t since) q m = subst (λ (o : AskedOfStore). BringsOwn q.0 o.operation) (sym m.2) (update_own (text_base base a.graph) q.0 body m.0 m.1)
+asked_own base a body (Deletes t since) q m = subst (λ (o : AskedOfStore). BringsOwn q.0 o.operation) (sym m) tt
+asked_own base a body (Looks c) q m = subst (λ (o : AskedOfStore). BringsOwn q.0 o.operation) (sym m) tt
+asked_own base a body (Reads c) q m = subst (λ (o : AskedOfStore). BringsOwn q.0 o.operation) (sym m) tt
 asked_own base a body NoPlan q m = absurd m
 
 -- so is each of what any request asks
-point_own : (base : List ℕ) (r : Request) (q : Point) → IsPointOf base r q → BringsOwn q.0 q.1
+point_own : (base : List ℕ) (r : Request) (q : Point) → IsPointOf base r q → BringsOwn q.0 q.1.operation
 point_own base (Asks a body) q m = asked_own base a body (plan_of a) q m
 point_own base (Denied d) q m = absurd m
 point_own base (Breaks a front st) q m = absurd m
 point_own base (Waits a front) q m = absurd m
 
 -- so is each of what many requests ask
-points_own : (base : List ℕ) (rs : List Request) (qs : List Point) → ArePointsOf base rs qs → All (λ (q : Point). BringsOwn q.0 q.1) qs
-points_own base rs [] k = All-nil (λ (q : Point). BringsOwn q.0 q.1)
+points_own : (base : List ℕ) (rs : List Request) (qs : List Point) → ArePointsOf base rs qs → All (λ (q : Point). BringsOwn q.0 q.1.operation) qs
+points_own base rs [] k = All-nil (λ (q : Point). BringsOwn q.0 q.1.operation)
 points_own base [] (q ∷ qs) k = absurd k
-points_own base (r ∷ rs) (q ∷ qs) (inl k) = All-cons (λ (q : Point). BringsOwn q.0 q.1) q qs (point_own base r q k.0) (points_own base rs qs k.1)
+points_own base (r ∷ rs) (q ∷ qs) (inl k) = All-cons (λ (q : Point). BringsOwn q.0 q.1.operation) q qs (point_own base r q k.0) (points_own base rs qs k.1)
 points_own base (r ∷ rs) (q ∷ qs) (inr k) = points_own base rs (q ∷ qs) k
 
 -- So is each of what a seat of a world asks.
 pub seat_own : (p : Server) (count : ℕ) (w : World) (past : Past) (history : History) → LeadsToWorld p count w past history → (c : ℕ) → c < count
-    → All (λ (q : Point). BringsOwn q.0 q.1) (asked_in Idle (deeds_at c history))
+    → All (λ (q : Point). BringsOwn q.0 q.1.operation) (asked_in Idle (deeds_at c history))
 seat_own p count w past history st c l = points_own p.base _ _ ((serves_all p count w past history st).served c l).points

@@ -13,6 +13,7 @@ use Rattle.gs_event.specs.declared.events.Action.{Action}
 use Rattle.gs_event.specs.declared.events.Action.TheVariants.{Open, OpenPatch, Stage, Commit, CommitPatch, Delete, Head, Pin, Piece, Cancel}
 use Rattle.gs_event.specs.declared.answers.Answer.{Answer}
 use Rattle.gs_event.specs.declared.answers.Answer.TheVariants.{Opened, Staged, Status, Pinned, Lines, Cancelled, Refused}
+use Rattle.gs_event.specs.Conditions.{asked_since}
 use Rattle.gs_event.specs.Phases.{Idle, Writing, Patching, Reading, write_of}
 use Rattle.gs_event.specs.Views.{Totals, SeatView, View, Fits, FitsSeat, answers_opened}
 use Rattle.gs_event.specs.Histories.{History, Start, IsLegal, view_of}
@@ -60,8 +61,8 @@ rise_on lo hi top (m ∷ ms) l k = (k.0, rise_on m hi top ms l k.1)
 
 -- the number of what is open
 abbrev open_in : SeatPhase → List ℕ
-open_in (Writing k r g) = r ∷ []
-open_in (Patching t r) = r ∷ []
+open_in (Writing k r g since) = r ∷ []
+open_in (Patching t r since) = r ∷ []
 open_in p = []
 
 -- the numbers of what is given from this phase on, and of what is open after it
@@ -83,23 +84,23 @@ rest_opens true = refl
 rest_opens false = refl
 
 -- an upload gives its own number
-write_brings : (k : UploadKind) (r : ℕ) (g : Graph) → numbers_bringing ((r, write_of k r g) ∷ []) ++ [] ≡ r ∷ []
-write_brings (Put t) r g = refl
-write_brings (Post t) r g = refl
-write_brings New r g = refl
+write_brings : (k : UploadKind) (r : ℕ) (g : Graph) (since : Option ℕ) → numbers_bringing ((r, asked_since since (write_of k r g)) ∷ []) ++ [] ≡ r ∷ []
+write_brings (Put t) r g since = refl
+write_brings (Post t) r g since = refl
+write_brings New r g since = refl
 
 -- it goes so by any deed
 deed_goes : (p : SeatPhase) (action : Action) (a : Answer) → Goes (open_in p) a (used_from p ((action, a) ∷ []))
-deed_goes Idle (Open k) (Opened r) = inr (inr (r, refl, refl, refl))
-deed_goes Idle (OpenPatch t) (Opened r) = inr (inr (r, refl, refl, refl))
-deed_goes Idle (Delete t) (Status s name) = inl refl
-deed_goes Idle (Head c) (Status s name) = inl refl
-deed_goes Idle (Pin c) (Pinned s) = inl (read_opens (nat_eq s 200))
-deed_goes (Writing k r g) (Stage ts) Staged = inl refl
-deed_goes (Writing k r g) Commit (Status s name) = inl (write_brings k r g)
-deed_goes (Writing k r g) Cancel Cancelled = inr (inl refl)
-deed_goes (Patching t r) (CommitPatch ops) (Status s name) = inl refl
-deed_goes (Patching t r) Cancel Cancelled = inr (inl refl)
+deed_goes Idle (Open k since) (Opened r) = inr (inr (r, refl, refl, refl))
+deed_goes Idle (OpenPatch t since) (Opened r) = inr (inr (r, refl, refl, refl))
+deed_goes Idle (Delete t since) (Status s name number) = inl refl
+deed_goes Idle (Head c) (Status s name number) = inl refl
+deed_goes Idle (Pin c) (Pinned s number) = inl (read_opens (nat_eq s 200))
+deed_goes (Writing k r g since) (Stage ts) Staged = inl refl
+deed_goes (Writing k r g since) Commit (Status s name number) = inl (write_brings k r g since)
+deed_goes (Writing k r g since) Cancel Cancelled = inr (inl refl)
+deed_goes (Patching t r since) (CommitPatch ops) (Status s name number) = inl refl
+deed_goes (Patching t r since) Cancel Cancelled = inr (inl refl)
 deed_goes (Reading left) (Piece n) (Lines b end) = inl (rest_opens end)
 deed_goes (Reading left) Cancel Cancelled = inl refl
 deed_goes p action a = inl refl
@@ -108,16 +109,16 @@ deed_goes p action a = inl refl
 
 -- what is opened has the next number
 opened_seat : (w : Totals) (v : SeatView) (action : Action) (r : ℕ) → FitsSeat w v action (Opened r) → r ≡ w.request + 1
-opened_seat w Idle (Open k) r f = f.1
-opened_seat w Idle (OpenPatch t) r f = f.1
-opened_seat w Idle (Delete t) r f = absurd f
+opened_seat w Idle (Open k since) r f = f.1
+opened_seat w Idle (OpenPatch t since) r f = f.1
+opened_seat w Idle (Delete t since) r f = absurd f
 opened_seat w Idle (Head c) r f = absurd f
 opened_seat w Idle (Pin c) r f = absurd f
-opened_seat w (Writing k n g) (Stage ts) r f = absurd f
-opened_seat w (Writing k n g) Commit r f = absurd f
-opened_seat w (Writing k n g) Cancel r f = absurd f
-opened_seat w (Patching t n) (CommitPatch ops) r f = absurd f
-opened_seat w (Patching t n) Cancel r f = absurd f
+opened_seat w (Writing k n g since) (Stage ts) r f = absurd f
+opened_seat w (Writing k n g since) Commit r f = absurd f
+opened_seat w (Writing k n g since) Cancel r f = absurd f
+opened_seat w (Patching t n since) (CommitPatch ops) r f = absurd f
+opened_seat w (Patching t n since) Cancel r f = absurd f
 opened_seat w (Reading left) (Piece n) r f = absurd f
 opened_seat w (Reading left) Cancel r f = absurd f
 opened_seat w v action r f = absurd f
@@ -186,7 +187,7 @@ used_at c h = used_from Idle (deeds_at c h)
 -- the numbers of some points and of more
 numbers-append : (xs ys : List Point) → numbers_bringing (xs ++ ys) ≡ numbers_bringing xs ++ numbers_bringing ys
 numbers-append [] ys = refl
-numbers-append (q ∷ xs) ys = go (brings q.1) (numbers-append xs ys) where
+numbers-append (q ∷ xs) ys = go (brings q.1.operation) (numbers-append xs ys) where
   go : (b : Bool) → numbers_bringing (xs ++ ys) ≡ numbers_bringing xs ++ numbers_bringing ys
       → cond b (q.0 ∷ numbers_bringing (xs ++ ys)) (numbers_bringing (xs ++ ys)) ≡ cond b (q.0 ∷ numbers_bringing xs) (numbers_bringing xs) ++ numbers_bringing ys
   go true e = ap (λ (ns : List ℕ). q.0 ∷ ns) e

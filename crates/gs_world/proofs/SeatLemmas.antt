@@ -101,7 +101,7 @@ record SeatFits (start : Start) (seat : ℕ) (h : History) : Type 0 where
   pub shows : HasPhase seat (phase_in Idle (deeds_at seat h)) (view_of start h)
 
 legal_fits : (start : Start) (seat : ℕ) (h : History) → seat < start.seats → IsLegal start h → AreAllowed Idle (deeds_at seat h) → SeatFits start seat h
-legal_fits start seat [] few legal o = record { fits = λ m. m; shows = (Idle, place_of (λ s. seat_view start.setting Idle) 0 start.seats seat few, refl) }
+legal_fits start seat [] few legal o = record { fits = λ m. m; shows = (Idle, place_of (λ s. seat_view start Idle) 0 start.seats seat few, refl) }
 legal_fits start seat (x ∷ before) few legal o = go (split_allowed Idle (deeds_at seat before) (deed_at seat x.0 x.1) o) (λ j. legal_fits start seat before few legal.0 j)
   where
     next : AreAllowed (phase_in Idle (deeds_at seat before)) (deed_at seat x.0 x.1) → SeatFits start seat before → SeatFits start seat (x ∷ before)

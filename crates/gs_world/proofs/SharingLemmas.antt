@@ -89,16 +89,16 @@ contains_at (z ∷ zs) zero x e = (0, omega arith, cc e)
 contains_at (z ∷ zs) (suc i) x e = Contains-append_right (z ∷ []) zs x (contains_at zs i x e)
 
 -- the numbers of a point that brings something, and of others
-brought_numbers : (x : Point) (qs : List Point) → brings x.1 ≡ true → numbers_bringing (x ∷ qs) ≡ x.0 ∷ numbers_bringing qs
+brought_numbers : (x : Point) (qs : List Point) → brings x.1.operation ≡ true → numbers_bringing (x ∷ qs) ≡ x.0 ∷ numbers_bringing qs
 brought_numbers x qs b = ap (λ (v : Bool). cond v (x.0 ∷ numbers_bringing qs) (numbers_bringing qs)) b
 
 more_numbers : (x : Point) (qs : List Point) (r : ℕ) → Contains (numbers_bringing qs) r → Contains (numbers_bringing (x ∷ qs)) r
-more_numbers x qs r k = go (brings x.1) where
+more_numbers x qs r k = go (brings x.1.operation) where
   go : (b : Bool) → Contains (cond b (x.0 ∷ numbers_bringing qs) (numbers_bringing qs)) r
   go true = Contains-append_right (x.0 ∷ []) (numbers_bringing qs) r k
   go false = k
 
-number_at : (qs : List Point) (i : ℕ) (q : Point) → slice_get qs i ≡ Some q → brings q.1 ≡ true → Contains (numbers_bringing qs) q.0
+number_at : (qs : List Point) (i : ℕ) (q : Point) → slice_get qs i ≡ Some q → brings q.1.operation ≡ true → Contains (numbers_bringing qs) q.0
 number_at [] i q e b = cc
 number_at (x ∷ qs) zero q e b = go (cc e) where
   go : q ≡ x → Contains (numbers_bringing (x ∷ qs)) q.0
@@ -114,7 +114,7 @@ rise_above n (m ∷ ms) h = All-cons (λ m. n < m) m ms h.0 (All-weaker (λ k. m
 
 -- the number at a later place is above the one at an earlier place
 later_number : (n : ℕ) (qs : List Point) (i j : ℕ) (q s : Point) → RiseFrom n (numbers_bringing qs) → i < j → slice_get qs i ≡ Some q → slice_get qs j ≡ Some s
-    → brings q.1 ≡ true → brings s.1 ≡ true → q.0 < s.0
+    → brings q.1.operation ≡ true → brings s.1.operation ≡ true → q.0 < s.0
 later_number n [] i j q s h l e f b d = cc
 later_number n (x ∷ qs) zero zero q s h l e f b d = absurd (omega (arith, l))
 later_number n (x ∷ qs) zero (suc j) q s h l e f b d = go (cc e) where
@@ -123,22 +123,22 @@ later_number n (x ∷ qs) zero (suc j) q s h l e f b d = go (cc e) where
     above : RiseFrom n (q.0 ∷ numbers_bringing qs)
     above = subst (λ (ns : List ℕ). RiseFrom n ns) (brought_numbers q qs b) (subst (λ (z : Point). RiseFrom n (numbers_bringing (z ∷ qs))) same h)
 later_number n (x ∷ qs) (suc i) zero q s h l e f b d = absurd (omega (arith, l))
-later_number n (x ∷ qs) (suc i) (suc j) q s h l e f b d = go (brings x.1) h (λ m k. later_number m qs i j q s k (omega (arith, l)) e f b d) where
+later_number n (x ∷ qs) (suc i) (suc j) q s h l e f b d = go (brings x.1.operation) h (λ m k. later_number m qs i j q s k (omega (arith, l)) e f b d) where
   go : (v : Bool) → RiseFrom n (cond v (x.0 ∷ numbers_bringing qs) (numbers_bringing qs)) → ((m : ℕ) → RiseFrom m (numbers_bringing qs) → q.0 < s.0) → q.0 < s.0
   go true k again = again x.0 k.1
   go false k again = again n k
 
 -- two requests
 
-module _ (start : Start) (h : History) (legal : IsLegal start h) (own : (c : ℕ) → c < start.seats → All (λ (q : Point). BringsOwn q.0 q.1) (asked_at c h)) where
+module _ (start : Start) (h : History) (legal : IsLegal start h) (own : (c : ℕ) → c < start.seats → All (λ (q : Point). BringsOwn q.0 q.1.operation) (asked_at c h)) where
   -- a request that brings a blank node has the number that this one has
   own_number : (c i r k : ℕ) → c < start.seats → (n : IsBroughtIn h c i (Blank r k)) → r ≡ (n.0).0
   own_number c i r k l n =
-      All-contains (NamesOwn (n.0).0) (terms_brought (n.0).1) (Blank r k)
-      (brought_own (n.0).0 (n.0).1 (All-contains (λ (q : Point). BringsOwn q.0 q.1) (asked_at c h) n.0 (own c l) (contains_at (asked_at c h) i n.0 n.1))) n.2
+      All-contains (NamesOwn (n.0).0) (terms_brought (n.0).1.operation) (Blank r k)
+      (brought_own (n.0).0 (n.0).1.operation (All-contains (λ (q : Point). BringsOwn q.0 q.1.operation) (asked_at c h) n.0 (own c l) (contains_at (asked_at c h) i n.0 n.1))) n.2
 
-  some_brought : (c i r k : ℕ) (n : IsBroughtIn h c i (Blank r k)) → brings (n.0).1 ≡ true
-  some_brought c i r k n = brings_some (n.0).1 (Blank r k) n.2
+  some_brought : (c i r k : ℕ) (n : IsBroughtIn h c i (Blank r k)) → brings (n.0).1.operation ≡ true
+  some_brought c i r k n = brings_some (n.0).1.operation (Blank r k) n.2
 
   has_number : (c i r k : ℕ) → c < start.seats → IsBroughtIn h c i (Blank r k) → Contains (request_numbers c h) r
   has_number c i r k l n =

@@ -38,7 +38,7 @@ brings q = false
 -- the numbers of the requests that give it some
 abbrev pub numbers_bringing : List Point → List ℕ
 numbers_bringing [] = []
-numbers_bringing (q ∷ qs) = cond (brings q.1) (q.0 ∷ numbers_bringing qs) (numbers_bringing qs)
+numbers_bringing (q ∷ qs) = cond (brings q.1.operation) (q.0 ∷ numbers_bringing qs) (numbers_bringing qs)
 
 -- those of a seat
 abbrev pub request_numbers : ℕ → History → List ℕ
@@ -78,7 +78,7 @@ terms_brought q = []
 
 -- the term stands in what is brought by one request of a seat: the i-th of those that asked something
 abbrev pub IsBroughtIn : History → ℕ → ℕ → Term → Type 0
-IsBroughtIn h seat i n = (q : Point) × (slice_get (asked_at seat h) i ≡ Some q) × Contains (terms_brought q.1) n
+IsBroughtIn h seat i n = (q : Point) × (slice_get (asked_at seat h) i ≡ Some q) × Contains (terms_brought q.1.operation) n
 
 -- No two requests share a blank node: none stands in what both bring, whichever connections they came on.
 abbrev pub NoneShareANode : ℕ → History → Type 0
@@ -87,7 +87,7 @@ NoneShareANode count h = (c d i j r k : ℕ) → c < count → d < count → (c 
 -- What a seat gives the abstract store has blank nodes of its own request alone; the numbers of a seat's requests rise, and no two
 -- seats have one in common; so no two requests share a blank node.
 pub record ShareNone (count : ℕ) (history : History) : Type 0 where
-  pub own : (c : ℕ) → c < count → All (λ q. BringsOwn q.0 q.1) (asked_at c history)
+  pub own : (c : ℕ) → c < count → All (λ q. BringsOwn q.0 q.1.operation) (asked_at c history)
   pub rise : (c : ℕ) → c < count → RiseFrom 0 (request_numbers c history)
   pub apart : (c d r : ℕ) → c < count → d < count → c ≢ d → Contains (request_numbers c history) r → Contains (request_numbers d history) r → ⊥
   pub shared : NoneShareANode count history

@@ -4,6 +4,7 @@
 
 mod cases;
 mod findings;
+mod numbers;
 mod plays;
 mod rounds;
 mod shows;

@@ -1,6 +1,7 @@
 //! Conversations that are held side by side.
 use crate::cases::{Case, When};
 use crate::findings::Finding;
+use crate::numbers::without_numbers;
 use crate::worlds::new_world;
 use gs_core::Refusal;
 use gs_world::{World, WorldStep};
@@ -191,7 +192,23 @@ impl<'a> Talks<'a> {
         Ok(steps)
     }
 
-    /// Compares what is written with what is to be written.
+    /// Whether this is written where that is to be written, beside what others do, without the numbers of commits.
+    fn compare_beside(
+        &self,
+        connection: u16,
+        written: &[u8],
+        output: &[u8],
+    ) -> Result<(), Finding> {
+        let alloc = self.case.alloc;
+        let written = without_numbers(alloc, written)?;
+        let output = without_numbers(alloc, output)?;
+        if written.as_slice() == output.as_slice() {
+            return Ok(());
+        }
+        Err(Finding::of_texts(alloc, connection, written.as_slice(), output.as_slice()))
+    }
+
+    /// Compares what is written with what is to be written. What is said is said of a connection that is alone.
     fn compare(&self, world: &World, manner: Manner) -> Result<(), Finding> {
         for connection in 0..self.case.connections {
             let Some(speaker) = self.speakers.get(connection as usize) else {
@@ -202,10 +219,14 @@ impl<'a> Talks<'a> {
             }
             let written = world.written(connection);
             let output = speaker.output.as_slice();
-            if written != output {
+            if written == output {
+                continue;
+            }
+            if let Manner::Alone(_) = manner {
                 let alloc = self.case.alloc;
                 return Err(Finding::of_texts(alloc, connection, written, output));
             }
+            self.compare_beside(connection, written, output)?;
         }
         Ok(())
     }

@@ -5,7 +5,7 @@ use Rattle.gs_session.proofs.bodies.ask.Goals as goal
 
 pub returns-in-Ok-Delete : goal.returns-in-Ok-Delete
 returns-in-Ok-Delete g c = λ e b t over.
-    delete_steps g.D.Door.Gives c.args.setup.now e c.args.asked t c.in-Ok-Delete.target b c.args.door.now c.delete.new.door c.delete.result over (sym c.in-Ok-Delete.ensures ∙ ap plan_told c.in-Ok-Delete.field-0-is) c.delete.ensures
+    delete_steps g.D.Door.Gives c.args.setup.now e c.args.asked t c.in-Ok-Delete.target c.in-Ok-Delete.since b c.args.door.now c.delete.new.door c.delete.result over (sym c.in-Ok-Delete.ensures ∙ ap plan_told c.in-Ok-Delete.field-0-is) c.delete.ensures
 
 pub returns-in-Ok-Look : goal.returns-in-Ok-Look
 returns-in-Ok-Look g c = λ e b t over.

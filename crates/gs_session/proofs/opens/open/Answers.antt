@@ -11,20 +11,20 @@ pub returns-in-Ok-Upload : goal.returns-in-Ok-Upload
 returns-in-Ok-Upload g c = λ e b.
     let made = c.open_upload.ensures in
     let plan = ap plan_told (sym c.in-Ok-Upload.field-0-is) ∙ c.in-Ok-Upload.ensures in (
-      act.Open c.in-Ok-Upload.kind,
+      act.Open c.in-Ok-Upload.kind c.in-Ok-Upload.since,
       made.0,
       made.1,
-      open_makes c.args.setup.now e c.args.asked c.in-Ok-Upload.kind made.0 b c.in-Ok.greeting.items c.open_upload.result plan c.in-Ok.ensures made.2,
+      open_makes c.args.setup.now e c.args.asked c.in-Ok-Upload.kind c.in-Ok-Upload.since made.0 b c.in-Ok.greeting.items c.open_upload.result plan c.in-Ok.ensures made.2,
     )
 
 pub returns-in-Ok-Patch : goal.returns-in-Ok-Patch
 returns-in-Ok-Patch g c = λ e b.
     let made = c.open_patch.ensures in
     let plan = ap plan_told (sym c.in-Ok-Patch.field-0-is) ∙ c.in-Ok-Patch.ensures in (
-      act.OpenPatch c.in-Ok-Patch.target,
+      act.OpenPatch c.in-Ok-Patch.target c.in-Ok-Patch.since,
       made.0,
       made.1,
-      open_patch_makes c.args.setup.now e c.args.asked c.in-Ok-Patch.target made.0 b c.in-Ok.greeting.items c.open_patch.result plan c.in-Ok.ensures made.2,
+      open_patch_makes c.args.setup.now e c.args.asked c.in-Ok-Patch.target c.in-Ok-Patch.since made.0 b c.in-Ok.greeting.items c.open_patch.result plan c.in-Ok.ensures made.2,
     )
 
 pub returns-in_default-plan_of : goal.returns-in_default-plan_of

@@ -1,4 +1,4 @@
-use Rattle.gs_session.specs.Connections.{Comes, Goes}
+use Rattle.gs_session.specs.Rounds.{Comes, Goes}
 use Rattle.gs_session.proofs.serving.rounds.Given as goal
 
 abbrev pub invariant-loop : goal.invariant-loop
