@@ -3,7 +3,8 @@ use Rattle.std.proofs.Common.{◌≡◌, ℕ, zero, suc, ◌+◌, List, ◌∷�
 use Rattle.std.specs.Prelude.{replicate}
 use Rattle.std.specs.List.{range_with_len}
 use Rattle.gs_event.specs.Phases.{Idle}
-use Rattle.gs_event.specs.Views.{View, SeatView}
+use Rattle.gs_event.specs.Conditions.{state_from}
+use Rattle.gs_event.specs.Views.{View, SeatView, state_of}
 use Rattle.gs_event.specs.Waste.{Shown}
 use Rattle.gs_event.specs.Histories.{Start, ShowsStart}
 use Rattle.gs_chronicle.specs.Pages.{PageView, fresh_page}
@@ -25,11 +26,11 @@ pub fresh_staged : (n : ℕ) → map slot_count (replicate n Empty) ≡ replicat
 fresh_staged zero = refl
 fresh_staged (suc n) = ap (λ (ms : List ℕ). 0 ∷ ms) (fresh_staged n)
 
-pub fresh_replays : (start : Start) (shown : Shown) (p : PageView) → ShowsStart start shown → p ≡ fresh_page → ∥ ReplaysTo shown.view p ∥₁
-fresh_replays start shown p shows fresh =
+pub fresh_replays : (start : Start) (shown : Shown) (p : PageView) → start.commit ≡ 0 → ShowsStart start shown → p ≡ fresh_page → ∥ ReplaysTo shown.view p ∥₁
+fresh_replays start shown p none shows fresh =
     ∣ subst (ReplaysTo shown.view) (sym fresh) (record {
-      first = shown.view.totals.dataset;
-      begins = λ _. ap (λ (v : View). v.totals.dataset) shows;
+      first = state_of shown.view.totals;
+      begins = λ _. ap (λ (v : View). state_of v.totals) shows ∙ ap state_from none;
       statuses = tt;
       ends = refl;
     }) ∣₁

@@ -16,11 +16,12 @@ use Rattle.gs_event.specs.declared.events.Event.{Event}
 use Rattle.gs_event.specs.declared.events.Event.TheVariants.{Seat as At, Reclaim}
 use Rattle.gs_event.specs.declared.answers.Answer.{Answer}
 use Rattle.gs_event.specs.declared.answers.Answer.TheVariants.{Refused}
-use Rattle.gs_event.specs.Operations.{Operation}
+use Rattle.gs_event.specs.Conditions.{Asked}
 use Rattle.gs_event.specs.Phases.{Writing, operation_of}
-use Rattle.gs_event.specs.Views.{View, Totals, SeatView, Fits, FitsSeat, next_phase, next_if, next_at, next_view, after_asked}
+use Rattle.gs_event.specs.Views.{View, Totals, SeatView, Fits, FitsSeat, next_phase, next_if, next_at, next_view, state_of, after_asked}
 use Rattle.gs_event.specs.Waste.{Shown}
-use Rattle.gs_event.specs.Steps.{Steps, WastesIf}
+use Rattle.gs_event.specs.Wasting.{WastesIf}
+use Rattle.gs_event.specs.Steps.{Steps}
 use Rattle.gs_chronicle.specs.Pages.{PageView}
 use Rattle.gs_chronicle.specs.Replays.{Replays}
 use Rattle.gs_chronicle.proofs.ReplayLemmas.{page_after-replays}
@@ -39,8 +40,8 @@ set_same xs s x is = ap (slice_set xs s) (sym (get_or_from_slice_get xs s x x is
 -- where an event is refused, as many stay staged
 
 refused_after : (p : SeatView) (n : ℕ) (action : Action) (x : Refusal) → count_after p n action (Refused x) ≡ n
-refused_after (Writing k r g) n (Stage ts) x = refl
-refused_after (Writing k r g) n action x = refl
+refused_after (Writing k r g since) n (Stage ts) x = refl
+refused_after (Writing k r g since) n action x = refl
 refused_after p n action x = refl
 
 pub refused_count : (p : SeatView) (n : ℕ) (e : Event) (x : Refusal) → kept_count p n e (Refused x) ≡ n
@@ -56,19 +57,18 @@ next_there : (v : View) (s : ℕ) (q : SeatView) (action : Action) (a : Answer) 
 next_there v s q action a is = ap (λ (o : Option SeatView). next_if v s o action a) is
 
 -- want of memory for what an upload is given is a step of the store, and changes nothing
-refused_view : (v : View) (s : ℕ) (k : UploadKind) (r : ℕ) (g : Graph) (action : Action) → MayLack (Writing k r g) (At s action) → slice_get v.seats s ≡ Some (Writing k r g)
-    → v ≡ next_at v s (Writing k r g) action (Refused NoMemory)
-refused_view v s k r g (Stage ts) may is =
+refused_view : (v : View) (s : ℕ) (k : UploadKind) (r : ℕ) (g : Graph) (since : Option ℕ) (action : Action) → MayLack (Writing k r g since) (At s action) → slice_get v.seats s ≡ Some (Writing k r g since)
+    → v ≡ next_at v s (Writing k r g since) action (Refused NoMemory)
+refused_view v s k r g since (Stage ts) may is =
     let request : v.totals.request ≡ v.totals.request + 0 = omega arith in
-    let commit : v.totals.commit ≡ v.totals.commit + 0 = omega arith in
-    let seats = sym (set_same v.seats s (Writing k r g) is) in
-    λ i. record { totals = record { setting = v.totals.setting; dataset = v.totals.dataset; request = request i; commit = commit i }; seats = seats i }
-refused_view v s k r g action may is = absurd may
+    let seats = sym (set_same v.seats s (Writing k r g since) is) in
+    λ i. record { totals = record { setting = v.totals.setting; dataset = v.totals.dataset; request = request i; commit = v.totals.commit; last_writes = v.totals.last_writes }; seats = seats i }
+refused_view v s k r g since action may is = absurd may
 
 refused_steps : (old : Shown) (s : ℕ) (q : SeatView) (action : Action) → slice_get old.view.seats s ≡ Some q → MayLack (open_of q) (At s action) → Steps old (At s action) (Refused NoMemory) old
-refused_steps old s (Writing k r g) (Stage ts) is may = record {
+refused_steps old s (Writing k r g since) (Stage ts) is may = record {
   fits = subst (λ (o : Option SeatView). MatchOption o (Refused NoMemory ≡ Refused BadSeat) (λ p. FitsSeat old.view.totals p (Stage ts) (Refused NoMemory))) (sym is) tt;
-  view = refused_view old.view s k r g (Stage ts) tt is ∙ sym (next_there old.view s (Writing k r g) (Stage ts) (Refused NoMemory) is);
+  view = refused_view old.view s k r g since (Stage ts) tt is ∙ sym (next_there old.view s (Writing k r g since) (Stage ts) (Refused NoMemory) is);
   pinned = sym (set-get_or old.pinned s None);
   waste = subst (λ (o : Option SeatView). WastesIf old.view.totals o (Stage ts) (Refused NoMemory) old.waste old.waste) (sym is) (record { between = old.waste; nodes = refl; records = refl });
 }
@@ -136,12 +136,12 @@ module _ (n k : ℕ) (old new : Shown) (slots : List Slot) (p p_then : PageView)
   absent_by e s action is short =
       subst (λ (x : Event). Steps old x a new → p_then ≡ p → TakesEvent n k old slots p x a new slots p_then) (sym is) (absent s action short)
 
--- the page replays to the store's dataset
+-- the page replays to the store's state
 
-call_replays : (n k : ℕ) (t : Totals) (p : PageView) (s count status : ℕ) (o : Option Operation) → StatusIs t o status → Replays t.setting p t.dataset
-    → Replays t.setting (page_by n k p (call_for s count status o)) (after_asked t.setting t.dataset o)
+call_replays : (n k : ℕ) (t : Totals) (p : PageView) (s count status : ℕ) (o : Option Asked) → StatusIs t o status → Replays t.setting 0 p (state_of t)
+    → Replays t.setting 0 (page_by n k p (call_for s count status o)) (after_asked t.setting (state_of t) o)
 call_replays n k t p s count status None is r = r
-call_replays n k t p s count status (Some q) is r = page_after-replays t.setting n k p t.dataset _ r is
+call_replays n k t p s count status (Some q) is r = page_after-replays t.setting 0 n k p (state_of t) _ r is
 
 next_replays : (n k : ℕ) (v : View) (staged : List ℕ) (p : PageView) (e : Event) (a : Answer) → Fits v e a → ReplaysTo v p
     → ReplaysTo (next_view v e a) (page_by n k p (decided_by v staged e a))
@@ -157,5 +157,5 @@ pub replays_then : (n k : ℕ) (old new : Shown) (slots slots_then : List Slot) 
     → ∥ ReplaysTo old.view p ∥₁ → ∥ ReplaysTo new.view p_then ∥₁
 replays_then n k old new slots slots_then p p_then e a keeps replays =
     ∥∥₁_map replays (λ r.
-    subst (λ (x : View × PageView). Replays x.0.totals.setting x.1 x.0.totals.dataset) (λ i. (sym keeps.steps.view i, sym keeps.page i))
+    subst (λ (x : View × PageView). ReplaysTo x.0 x.1) (λ i. (sym keeps.steps.view i, sym keeps.page i))
     (next_replays n k old.view (map slot_count slots) p e a keeps.steps.fits r))

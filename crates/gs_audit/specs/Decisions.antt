@@ -7,17 +7,17 @@ use Rattle.gs_event.specs.declared.events.Event.{Event}
 use Rattle.gs_event.specs.declared.events.Event.TheVariants.{Seat as At, Reclaim}
 use Rattle.gs_event.specs.declared.answers.Answer.{Answer}
 use Rattle.gs_event.specs.declared.answers.Answer.TheVariants.{Status, Pinned}
-use Rattle.gs_event.specs.Operations.{Operation}
+use Rattle.gs_event.specs.Conditions.{Asked}
 use Rattle.gs_event.specs.Phases.{operation_of}
-use Rattle.gs_event.specs.Views.{View, SeatView}
+use Rattle.gs_event.specs.Views.{View, SeatView, state_of}
 use Rattle.gs_chronicle.specs.Sizes.{ops_size}
 use Rattle.gs_chronicle.specs.Pages.{Decided, PageView, page_after}
 use Rattle.gs_chronicle.specs.Replays.{Replays}
 
 -- the status of a decided call
 abbrev pub status_in : Answer → ℕ
-status_in (Status s name) = s
-status_in (Pinned s) = s
+status_in (Status s name number) = s
+status_in (Pinned s number) = s
 status_in a = 0
 
 -- how many triples and patterns a decided call's request has, at a seat where n triples are staged
@@ -27,9 +27,9 @@ triples_by n (CommitPatch ops) = ops_size ops.items
 triples_by n action = 0
 
 -- the decided call, where the abstract store was asked something
-abbrev pub call_for : (seat triples status : ℕ) → Option Operation → Option Decided
+abbrev pub call_for : (seat triples status : ℕ) → Option Asked → Option Decided
 call_for seat triples status None = None
-call_for seat triples status (Some q) = Some (record { seat = seat; operation = q; triples = triples; status = status })
+call_for seat triples status (Some q) = Some (record { seat = seat; asked = q; triples = triples; status = status })
 
 -- what an answered action decided, at seat s in this phase, where n triples are staged
 abbrev pub decided_at : ℕ → SeatView → ℕ → Action → Answer → Option Decided
@@ -50,6 +50,7 @@ abbrev pub page_by : (most_rows most_triples : ℕ) → PageView → Option Deci
 page_by most_rows most_triples p None = p
 page_by most_rows most_triples p (Some d) = page_after most_rows most_triples p d
 
--- the page replays to the dataset that is shown
+-- The page replays to the dataset, the commit number and the last writes that are shown. Page 0 replays from where a store
+-- begins before any commit.
 abbrev pub ReplaysTo : View → PageView → Type 0
-ReplaysTo v p = Replays v.totals.setting p v.totals.dataset
+ReplaysTo v p = Replays v.totals.setting 0 p (state_of v.totals)

@@ -19,21 +19,21 @@ use Rattle.gs_audit.specs.declared.slots.Slot.TheVariants.{Empty, Upload, Patch}
 -- a phase as a slot keeps it: a seat that reads has nothing open that a page will store
 abbrev pub open_of : SeatView → SeatView
 open_of Idle = Idle
-open_of (Writing k r g) = Writing k r g
-open_of (Patching t r) = Patching t r
+open_of (Writing k r g since) = Writing k r g since
+open_of (Patching t r since) = Patching t r since
 open_of (Reading left) = Idle
 
 -- the phase that a slot keeps
 abbrev pub slot_phase : Slot → SeatView
 slot_phase Empty = Idle
-slot_phase (Upload u) = Writing u.kind u.request (staged_graph u)
-slot_phase (Patch t r) = Patching t r
+slot_phase (Upload u) = Writing u.kind u.request (staged_graph u) u.since
+slot_phase (Patch t r since) = Patching t r since
 
 -- how many triples were staged, with repeats
 abbrev pub slot_count : Slot → ℕ
 slot_count Empty = 0
 slot_count (Upload u) = length (staged_triples u)
-slot_count (Patch t r) = 0
+slot_count (Patch t r since) = 0
 
 -- a kept phase after an answer
 abbrev pub open_after : SeatView → Action → Answer → SeatView
@@ -41,9 +41,9 @@ open_after p action a = open_of (phase_after (λ c. []) (λ left n. left) p acti
 
 -- how many triples are staged after an answer, at a slot with this phase, where it was n
 abbrev pub count_after : SeatView → ℕ → Action → Answer → ℕ
-count_after (Writing k r g) n (Stage ts) Staged = n + length ts.items
-count_after (Writing k r g) n Commit (Status s name) = 0
-count_after (Writing k r g) n Cancel Cancelled = 0
+count_after (Writing k r g since) n (Stage ts) Staged = n + length ts.items
+count_after (Writing k r g since) n Commit (Status s name number) = 0
+count_after (Writing k r g since) n Cancel Cancelled = 0
 count_after p n action a = n
 
 -- there is room for what the action stages
@@ -58,7 +58,7 @@ CanTake slot (At s action) = CanStage slot action
 
 -- the event stages to an open upload
 abbrev pub MayLack : SeatView → Event → Type 0
-MayLack (Writing k r g) (At s (Stage ts)) = Unit {0}
+MayLack (Writing k r g since) (At s (Stage ts)) = Unit {0}
 MayLack p e = ⊥
 
 -- a call of this seat that was decided, if there was one

@@ -10,9 +10,9 @@ use Rattle.gs_event.specs.declared.answers.Answer.TheVariants.{Opened, Staged, S
 
 -- how many triples were staged at a seat since its upload was opened, with repeats, after an answer where it was n
 abbrev pub staged_since_open : ℕ → Action → Answer → ℕ
-staged_since_open n (Open k) (Opened r) = 0
+staged_since_open n (Open k since) (Opened r) = 0
 staged_since_open n (Stage ts) Staged = n + length ts.items
-staged_since_open n Commit (Status s name) = 0
+staged_since_open n Commit (Status s name number) = 0
 staged_since_open n Cancel Cancelled = 0
 staged_since_open n action a = n
 

@@ -111,7 +111,7 @@ impl<const ENTRIES: usize, const TRIPLES: usize> Audited<ENTRIES, TRIPLES> {
         take(*alloc, store, slots, chronicle, event)
     }
 
-    /// The page. It replays to the dataset that the store shows.
+    /// The page. It replays to the dataset, the commit number and the last writes that the store shows.
     pub fn page(&self) -> &Page<ENTRIES, TRIPLES>
         ensures value { result.now ≡ self.now.chronicle }
         ensures replays { ∥ ReplaysTo self.now.store.view (page_of result.now) ∥₁ }

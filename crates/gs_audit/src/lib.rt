@@ -1,4 +1,4 @@
-//! A store with a page of its history, which replays to the store's dataset.
+//! A store with a page of its history, which replays to the state of the store.
 #![tactic(auto)]
 
 mod audited;

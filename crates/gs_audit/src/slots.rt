@@ -15,8 +15,8 @@ pub enum Slot {
     Empty,
     /// An upload, with what was staged.
     Upload(Upload),
-    /// A patch of a graph, under this request number.
-    Patch(Target, u64),
+    /// A patch of a graph, under this request number and on this condition.
+    Patch(Target, u64, Option<u64>),
 }
 
 impl Slot {
@@ -61,7 +61,7 @@ fn after(
     match slot {
         Slot::Empty => after_empty(alloc, action, answer),
         Slot::Upload(upload) => after_upload(upload, action, answer),
-        Slot::Patch(target, request) => after_patch(target, request, action, answer),
+        Slot::Patch(target, request, since) => after_patch(target, request, since, action, answer),
     }
 }
 
@@ -70,24 +70,31 @@ fn after_empty(alloc: Global, action: Action, answer: &Answer) -> (Slot, Option<
     ensures { NotesAction Slot.Empty action answer.now result.0 result.1 }
 {
     match action {
-        Action::Open(kind) => match answer {
-            Answer::Opened(request) => (Slot::Upload(Upload::new(alloc, kind, *request)), None),
+        Action::Open(kind, since) => match answer {
+            Answer::Opened(request) => {
+                (
+                    Slot::Upload(Upload::new(alloc, kind, *request, since)),
+                    None,
+                )
+            }
             _ => (Slot::Empty, None),
         },
-        Action::OpenPatch(target) => match answer {
-            Answer::Opened(request) => (Slot::Patch(target, *request), None),
+        Action::OpenPatch(target, since) => match answer {
+            Answer::Opened(request) => (Slot::Patch(target, *request, since), None),
             _ => (Slot::Empty, None),
         },
-        Action::Delete(target) => match answer {
-            Answer::Status(status, _) => (Slot::Empty, Some((Request::Delete(target), *status))),
+        Action::Delete(target, since) => match answer {
+            Answer::Status(status, _, _) => {
+                (Slot::Empty, Some((Request::Delete(target, since), *status)))
+            }
             _ => (Slot::Empty, None),
         },
         Action::Head(scope) => match answer {
-            Answer::Status(status, _) => (Slot::Empty, Some((Request::Head(scope), *status))),
+            Answer::Status(status, _, _) => (Slot::Empty, Some((Request::Head(scope), *status))),
             _ => (Slot::Empty, None),
         },
         Action::Pin(scope) => match answer {
-            Answer::Pinned(status) => (Slot::Empty, Some((Request::Pin(scope), *status))),
+            Answer::Pinned(status, _) => (Slot::Empty, Some((Request::Pin(scope), *status))),
             _ => (Slot::Empty, None),
         },
         Action::Stage(_)
@@ -116,7 +123,7 @@ fn after_upload(
             _ => (Slot::Upload(upload), None),
         },
         Action::Commit => match answer {
-            Answer::Status(status, _) => {
+            Answer::Status(status, _, _) => {
                 upload.close();
                 (Slot::Empty, Some((Request::Upload(upload), *status)))
             }
@@ -126,10 +133,10 @@ fn after_upload(
             Answer::Cancelled => (Slot::Empty, None),
             _ => (Slot::Upload(upload), None),
         },
-        Action::Open(_)
-        | Action::OpenPatch(_)
+        Action::Open(_, _)
+        | Action::OpenPatch(_, _)
         | Action::CommitPatch(_)
-        | Action::Delete(_)
+        | Action::Delete(_, _)
         | Action::Head(_)
         | Action::Pin(_)
         | Action::Piece(_) => (Slot::Upload(upload), None),
@@ -140,29 +147,33 @@ fn after_upload(
 fn after_patch(
     target: Target,
     request: u64,
+    since: Option<u64>,
     action: Action,
     answer: &Answer,
 ) -> (Slot, Option<(Request, u16)>)
-    ensures { NotesAction (Slot.Patch target request) action answer.now result.0 result.1 }
+    ensures { NotesAction (Slot.Patch target request since) action answer.now result.0 result.1 }
 {
     match action {
         Action::CommitPatch(ops) => match answer {
-            Answer::Status(status, _) => {
-                (Slot::Empty, Some((Request::Patch(target, ops), *status)))
+            Answer::Status(status, _, _) => {
+                (
+                    Slot::Empty,
+                    Some((Request::Patch(target, ops, since), *status)),
+                )
             }
-            _ => (Slot::Patch(target, request), None),
+            _ => (Slot::Patch(target, request, since), None),
         },
         Action::Cancel => match answer {
             Answer::Cancelled => (Slot::Empty, None),
-            _ => (Slot::Patch(target, request), None),
+            _ => (Slot::Patch(target, request, since), None),
         },
-        Action::Open(_)
-        | Action::OpenPatch(_)
+        Action::Open(_, _)
+        | Action::OpenPatch(_, _)
         | Action::Stage(_)
         | Action::Commit
-        | Action::Delete(_)
+        | Action::Delete(_, _)
         | Action::Head(_)
         | Action::Pin(_)
-        | Action::Piece(_) => (Slot::Patch(target, request), None),
+        | Action::Piece(_) => (Slot::Patch(target, request, since), None),
     }
 }

@@ -1,7 +1,10 @@
 //! Tests of a store with its page: worked rows on a page of four entries and six triples, the entries of
-//! questions and reads of a graph and of the whole dataset, and what a refused request for memory leaves.
+//! questions and reads of a graph and of the whole dataset and of writes on condition, and what a refused
+//! request for memory leaves.
 #![tactic(auto)]
 
+#[cfg(test)]
+mod conditions;
 #[cfg(test)]
 mod refusals;
 #[cfg(test)]

@@ -14,13 +14,13 @@ fn wants_memory(answer: &Answer) -> bool {
 /// Opens an upload by the first seat, a second time where the first was refused.
 fn open(alloc: Global, store: &mut Small) -> Result<Answer, Refusal> {
     let kind = UploadKind::Post(cats(alloc)?);
-    let answer = store.event(Event::Seat(0, Action::Open(kind)));
+    let answer = store.event(Event::Seat(0, Action::Open(kind, None)));
     if !wants_memory(&answer) {
         return Ok(answer);
     }
     drop(answer);
     let kind = UploadKind::Post(cats(alloc)?);
-    Ok(store.event(Event::Seat(0, Action::Open(kind))))
+    Ok(store.event(Event::Seat(0, Action::Open(kind, None))))
 }
 
 /// The same with so many triples that are staged.
@@ -65,11 +65,11 @@ fn read(store: &mut Small) -> Answer {
 /// seat. Neither takes memory until lines are asked for.
 fn wrong_read(store: &mut Small) -> Option<&'static str> {
     let asked = store.event(Event::Seat(1, Action::Head(Scope::All)));
-    if !matches!(asked, Answer::Status(200, None)) {
+    if !matches!(asked, Answer::Status(200, None, 1)) {
         return Some("the question");
     }
     let pinned = store.event(Event::Seat(1, Action::Pin(Scope::All)));
-    if !matches!(pinned, Answer::Pinned(200)) {
+    if !matches!(pinned, Answer::Pinned(200, 1)) {
         return Some("the read");
     }
     let given = read(store);
@@ -93,7 +93,7 @@ fn wrong_part(alloc: Global, store: &mut Small) -> Result<Option<&'static str>, 
     if !matches!(stage(alloc, store, 3)?, Answer::Staged) {
         return Ok(Some("the second list"));
     }
-    if !matches!(commit(store), Answer::Status(201, _)) {
+    if !matches!(commit(store), Answer::Status(201, _, 1)) {
         return Ok(Some("the commit"));
     }
     if let Some(part) = wrong_read(store) {

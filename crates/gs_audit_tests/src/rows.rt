@@ -64,7 +64,7 @@ const ROWS: [Row; 5] = [
 /// The status of an answer to a commit, 0 for another answer.
 fn status_in(answer: &Answer) -> u16 {
     match answer {
-        Answer::Status(status, _) => *status,
+        Answer::Status(status, _, _) => *status,
         _ => 0,
     }
 }
@@ -122,7 +122,7 @@ fn last_triples(store: &Small) -> Option<usize> {
 /// What is answered otherwise to a Stage of no triples and its Commit, or the entry where it counts any.
 fn wrong_of_none(alloc: Global, store: &mut Small) -> Result<Option<&'static str>, Refusal> {
     let kind = UploadKind::Put(cats(alloc)?);
-    drop(store.event(Event::Seat(0, Action::Open(kind))));
+    drop(store.event(Event::Seat(0, Action::Open(kind, None))));
     let stage = store.event(Event::Seat(0, Action::Stage(Vec::new(alloc))));
     let is_staged = matches!(stage, Answer::Staged);
     drop(stage);
@@ -198,7 +198,7 @@ fn last_counts(store: &Wide) -> (usize, Option<usize>) {
 /// What is not as it must be of a PUT of 300 lists of four triples, which is stored whole.
 fn wrong_of_many(alloc: Global, store: &mut Wide) -> Result<Option<&'static str>, Refusal> {
     let kind = UploadKind::Put(cats(alloc)?);
-    drop(store.event(Event::Seat(0, Action::Open(kind))));
+    drop(store.event(Event::Seat(0, Action::Open(kind, None))));
     for _ in 0..300u32 {
         stage_four(alloc, store)?;
     }

@@ -76,8 +76,8 @@ fn is_answered(alloc: Global, store: &mut Small, call: Call) -> Result<bool, Ref
     let action = action(alloc, call)?;
     let answer = store.event(Event::Seat(1, action));
     let is_right = match &answer {
-        Answer::Status(status, None) => !call.is_read && *status == call.status,
-        Answer::Pinned(status) => call.is_read && *status == call.status,
+        Answer::Status(status, None, _) => !call.is_read && *status == call.status,
+        Answer::Pinned(status, _) => call.is_read && *status == call.status,
         _ => false,
     };
     drop(answer);

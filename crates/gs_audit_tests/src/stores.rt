@@ -58,7 +58,7 @@ pub fn cats(alloc: Global) -> Result<Target, Refusal> {
 pub fn put(alloc: Global, store: &mut Small, count: u8) -> Result<Answer, Refusal> {
     let list = triples(alloc, count)?;
     let kind = UploadKind::Put(cats(alloc)?);
-    drop(store.event(Event::Seat(0, Action::Open(kind))));
+    drop(store.event(Event::Seat(0, Action::Open(kind, None))));
     drop(store.event(Event::Seat(0, Action::Stage(list))));
     Ok(store.event(Event::Seat(0, Action::Commit)))
 }

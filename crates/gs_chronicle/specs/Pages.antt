@@ -1,13 +1,13 @@
 -- A page of history as it is seen, and the rules by which it takes a call.
 use Rattle.std.specs.Prelude.{◌≡◌, ℕ, ◌+◌, ◌-◌, ◌^◌, min, List, [], ◌∷◌, ◌++◌, length, map, Bool, ◌&&◌, nat_lt, nat_le, if◌then◌else◌}
 use Rattle.std.specs.List.{sum_by, range_with_len}
-use Rattle.gs_event.specs.Operations.{Operation}
+use Rattle.gs_event.specs.Conditions.{Asked}
 
--- one call that was decided: by which seat, what the abstract store was asked, how many triples and patterns the request
--- has, with repeats, and its status
+-- one call that was decided: by which seat, what the abstract store was asked and on which condition, how many triples and
+-- patterns the request has, with repeats, and its status
 pub record Decided : Type 0 where
   pub seat : ℕ
-  pub operation : Operation
+  pub asked : Asked
   pub triples : ℕ
   pub status : ℕ
 

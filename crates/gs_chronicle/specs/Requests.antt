@@ -1,6 +1,7 @@
 -- What a stored request asked for.
-use Rattle.std.specs.Prelude.{ℕ, length}
-use Rattle.gs_event.specs.Operations.{Operation, Patches, Deletes, Looks, Reads}
+use Rattle.std.specs.Prelude.{ℕ, length, None}
+use Rattle.gs_event.specs.Operations.{Patches, Deletes, Looks, Reads}
+use Rattle.gs_event.specs.Conditions.{Asked, asked_since}
 use Rattle.gs_event.specs.Phases.{write_of}
 use Rattle.gs_chronicle.specs.declared.requests.Request.{Request}
 use Rattle.gs_chronicle.specs.declared.requests.Request.TheVariants.{Upload, Patch, Delete, Head, Pin}
@@ -8,22 +9,22 @@ use Rattle.gs_chronicle.specs.Sizes.{ops_size}
 use Rattle.gs_chronicle.specs.Uploads.{staged_triples, staged_graph}
 use Rattle.gs_chronicle.specs.Pages.{Decided}
 
--- what the abstract store was asked
-abbrev pub operation_in : Request → Operation
-operation_in (Upload u) = write_of u.kind u.request (staged_graph u)
-operation_in (Patch t ops) = Patches t ops.items
-operation_in (Delete t) = Deletes t
-operation_in (Head c) = Looks c
-operation_in (Pin c) = Reads c
+-- what the abstract store was asked, and on which condition
+abbrev pub asked_in : Request → Asked
+asked_in (Upload u) = asked_since u.since (write_of u.kind u.request (staged_graph u))
+asked_in (Patch t ops since) = asked_since since (Patches t ops.items)
+asked_in (Delete t since) = asked_since since (Deletes t)
+asked_in (Head c) = asked_since None (Looks c)
+asked_in (Pin c) = asked_since None (Reads c)
 
 -- how many triples and patterns the request has, with repeats
 abbrev pub request_size : Request → ℕ
 request_size (Upload u) = length (staged_triples u)
-request_size (Patch t ops) = ops_size ops.items
-request_size (Delete t) = 0
+request_size (Patch t ops since) = ops_size ops.items
+request_size (Delete t since) = 0
 request_size (Head c) = 0
 request_size (Pin c) = 0
 
 -- the call by which this seat asked for that, and got this status
 abbrev pub call_of : ℕ → Request → ℕ → Decided
-call_of seat r status = record { seat = seat; operation = operation_in r; triples = request_size r; status = status }
+call_of seat r status = record { seat = seat; asked = asked_in r; triples = request_size r; status = status }

@@ -1,7 +1,7 @@
 //! What a store was asked by a call that it decided.
 ghost use Rattle.std.specs.Prelude.{◌≡◌, ◌≤◌, ◌^◌, MatchOption};
 ghost use Rattle.gs_chronicle.specs.Kinds.{action_kind_of};
-ghost use Rattle.gs_chronicle.specs.Requests.{operation_in, request_size};
+ghost use Rattle.gs_chronicle.specs.Requests.{asked_in, request_size};
 
 use crate::kinds::ActionKind;
 use crate::operations::ops_size;
@@ -14,10 +14,11 @@ use gs_term::Target;
 pub enum Request {
     /// A commit of what was staged.
     Upload(Upload),
-    /// A commit of these operations on a graph.
-    Patch(Target, Vec<Op>),
-    /// A deletion of a graph.
-    Delete(Target),
+    /// A commit of these operations on a graph. With a number it takes effect only where the graph has not
+    /// been written since the commit of that number.
+    Patch(Target, Vec<Op>, Option<u64>),
+    /// A deletion of a graph, with such a condition.
+    Delete(Target, Option<u64>),
     /// The question whether there is such a graph. The whole dataset is always there.
     Head(Scope),
     /// The beginning of a read of a graph, or of all of them.
@@ -27,12 +28,12 @@ pub enum Request {
 impl Request {
     /// The kind of the action.
     pub fn kind(&self) -> ActionKind
-        ensures { result ≡ action_kind_of (operation_in self.now) }
+        ensures { result ≡ action_kind_of (asked_in self.now).operation }
     {
         match self {
             Request::Upload(_) => ActionKind::Commit,
-            Request::Patch(_, _) => ActionKind::CommitPatch,
-            Request::Delete(_) => ActionKind::Delete,
+            Request::Patch(_, _, _) => ActionKind::CommitPatch,
+            Request::Delete(_, _) => ActionKind::Delete,
             Request::Head(_) => ActionKind::Head,
             Request::Pin(_) => ActionKind::Pin,
         }
@@ -44,8 +45,8 @@ impl Request {
     {
         match self {
             Request::Upload(upload) => Some(upload.count()),
-            Request::Patch(_, ops) => ops_size(ops.as_slice()),
-            Request::Delete(_) | Request::Head(_) | Request::Pin(_) => Some(0),
+            Request::Patch(_, ops, _) => ops_size(ops.as_slice()),
+            Request::Delete(_, _) | Request::Head(_) | Request::Pin(_) => Some(0),
         }
     }
 }

@@ -11,6 +11,7 @@ use std::alloc::Global;
 pub struct Upload {
     kind: UploadKind,
     request: u64,
+    since: Option<u64>,
     packed: PackedTriples,
 }
 
@@ -20,16 +21,18 @@ impl Upload {
     ghost use Rattle.gs_packed_triples.specs.Triples.{triples_left};
     ghost use Rattle.gs_chronicle.specs.Uploads.{staged_triples, staged_graph, staged_bytes, staged_room, HasRoomToStage};
 
-    /// An upload of this kind and this request number, to which nothing was staged yet.
-    pub fn new(alloc: Global, kind: UploadKind, request: u64) -> Upload
+    /// An upload of this kind, this request number and this condition, to which nothing was staged yet.
+    pub fn new(alloc: Global, kind: UploadKind, request: u64, since: Option<u64>) -> Upload
         ensures kind { result.kind ≡ kind }
         ensures request { result.request ≡ request }
+        ensures since { result.since ≡ since }
         ensures triples { staged_triples result ≡ [] }
         ensures graph { staged_graph result ≡ empty_graph }
     {
         Upload {
             kind,
             request,
+            since,
             packed: PackedTriples::new(alloc),
         }
     }
@@ -46,6 +49,13 @@ impl Upload {
         ensures { result ≡ self.now.request }
     {
         self.request
+    }
+
+    /// The number of the commit since which its target must not have been written, if there is one.
+    pub fn since(&self) -> Option<u64>
+        ensures { result ≡ self.now.since }
+    {
+        self.since
     }
 
     /// A reader of the triples that were staged, the first one first. Takes no memory.
@@ -66,6 +76,7 @@ impl Upload {
     pub fn make_room(&mut self, list: &[Triple]) -> bool
         ensures kind { self.new.kind ≡ self.old.kind }
         ensures request { self.new.request ≡ self.old.request }
+        ensures since { self.new.since ≡ self.old.since }
         ensures triples { staged_triples self.new ≡ staged_triples self.old }
         ensures room { result ≡ true → HasRoomToStage self.new list.now }
     {
@@ -78,6 +89,7 @@ impl Upload {
         requires { HasRoomToStage self.old list.now }
         ensures kind { self.new.kind ≡ self.old.kind }
         ensures request { self.new.request ≡ self.old.request }
+        ensures since { self.new.since ≡ self.old.since }
         ensures triples { staged_triples self.new ≡ staged_triples self.old ++ list.now }
         ensures graph { staged_graph self.new ≡ with_triples (staged_graph self.old) list.now }
     {
@@ -88,6 +100,7 @@ impl Upload {
     pub fn close(&mut self)
         ensures kind { self.new.kind ≡ self.old.kind }
         ensures request { self.new.request ≡ self.old.request }
+        ensures since { self.new.since ≡ self.old.since }
         ensures triples { staged_triples self.new ≡ staged_triples self.old }
         ensures frees { staged_bytes self.old ≡ 0 → staged_room self.new ≡ 0 }
     {

@@ -27,11 +27,11 @@ impl Awaited {
             return Awaited::Nothing;
         };
         match action {
-            Action::Commit | Action::CommitPatch(_) | Action::Delete(_) => Awaited::Status,
+            Action::Commit | Action::CommitPatch(_) | Action::Delete(_, _) => Awaited::Status,
             Action::Cancel => Awaited::Cancelled,
             Action::Piece(_) => Awaited::LastLines,
-            Action::Open(_)
-            | Action::OpenPatch(_)
+            Action::Open(_, _)
+            | Action::OpenPatch(_, _)
             | Action::Stage(_)
             | Action::Head(_)
             | Action::Pin(_) => Awaited::Nothing,
@@ -50,7 +50,7 @@ impl Awaited {
         ensures value { result ≡ comes_with self answer.now }
     {
         match self {
-            Awaited::Status => matches!(answer, Answer::Status(_, _)),
+            Awaited::Status => matches!(answer, Answer::Status(_, _, _)),
             Awaited::Cancelled => matches!(answer, Answer::Cancelled),
             Awaited::LastLines => matches!(answer, Answer::Lines(_, true)),
             Awaited::Nothing => false,

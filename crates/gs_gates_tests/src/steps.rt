@@ -39,12 +39,12 @@ fn triples(alloc: Global) -> Result<Vec<Triple>, Refusal> {
 /// This step of this seat. Two triples are staged, a patch has no operations, and a piece has one line.
 pub fn event(alloc: Global, seat: u16, step: Step) -> Result<Event, Refusal> {
     let action = match step {
-        Step::Open => Action::Open(UploadKind::Put(Target::Default)),
+        Step::Open => Action::Open(UploadKind::Put(Target::Default), None),
         Step::Stage => Action::Stage(triples(alloc)?),
         Step::Commit => Action::Commit,
-        Step::OpenPatch => Action::OpenPatch(Target::Default),
+        Step::OpenPatch => Action::OpenPatch(Target::Default, None),
         Step::CommitPatch => Action::CommitPatch(Vec::new(alloc)),
-        Step::Delete => Action::Delete(Target::Default),
+        Step::Delete => Action::Delete(Target::Default, None),
         Step::Head => Action::Head(Scope::One(Target::Default)),
         Step::HeadAll => Action::Head(Scope::All),
         Step::Pin => Action::Pin(Scope::One(Target::Default)),

@@ -6,17 +6,17 @@ ghost use Rattle.gs_pass.specs.Stamps.{keeper as keeper_of};
 
 use gs_core::{Answer, Event, Refusal, Store};
 use gs_door::Door;
-use gs_schedules::{DATASETS, ROWS, Row};
+use gs_schedules::{CONDITIONS, DATASETS, ROWS, Row};
 use gs_shared::{CountedLedger, Pass, PassDoor, Room, Shared, StampCell, Token, stamp_cell};
 use gs_test_events::{answered, events, printed};
-use std::alloc::Global;
+use std::alloc::{AllocError, Global};
 use std::marker::Brand;
 use std::sync::Wait;
 use std::sync::ledger::Blank;
 use std::test::Fail;
 
 /// The schedules that are fed texts, with their triples and operations in the place of the texts.
-const FED: [Row; 7] = [
+const FED: [Row; 8] = [
     (
         "nodes of two requests are different",
         "0 open post default\n0 stage _1_1 <p> _1_1\n0 commit\n0 open post default\n0 stage _2_1 <p> _2_1\n0 commit\n0 pin default\n0 piece 9\n",
@@ -46,6 +46,11 @@ const FED: [Row; 7] = [
         "all graphs are read as they are at one moment, in the order of their names with brackets",
         "0 open post default\n0 stage <1> <p> \"1\"\n0 commit\n0 open put <http://e/g>\n0 stage <2> <p> _1_1 . <1> <p> \"2\"\n0 commit\n3 open put <http://e/g!>\n3 stage <3> <p> \"3\"\n3 commit\n1 pin all\n0 delete <http://e/g>\n2 pin all\n1 piece 3\n2 piece 9\n1 piece 1\n",
         "opened 1\nstaged\n204\nopened 2\nstaged\n201\nopened 3\nstaged\n201\n200\n204\n200\n<http://e/1> <http://e/p> \"1\" .\n<http://e/3> <http://e/p> \"3\" <http://e/g!> .\n<http://e/1> <http://e/p> \"2\" <http://e/g> .\nmore\n<http://e/1> <http://e/p> \"1\" .\n<http://e/3> <http://e/p> \"3\" <http://e/g!> .\nend\n<http://e/2> <http://e/p> _:b1_1 <http://e/g> .\nend\n",
+    ),
+    (
+        "patches on condition: two come too late, and one is of a missing graph",
+        "0 open put <http://e/g>\n0 stage <1> <p> \"1\"\n0 commit\n1 open patch <http://e/g> since 0\n1 patch: insert <1> <p> \"2\"\n1 open patch <http://e/g> since 1\n1 patch: insert <1> <p> \"2\"\n2 open patch <http://e/g> since 1\n2 patch:\n2 open patch <http://e/h> since 0\n2 patch:\n0 pin <http://e/g>\n0 piece 9\n",
+        "opened 1\nstaged\n201\nopened 2\n412 1\nopened 3\n204\nopened 4\n412 2\nopened 5\n404\n200\n<http://e/1> <http://e/p> \"1\" .\n<http://e/1> <http://e/p> \"2\" .\nend\n",
     ),
     (
         "a text with a fault is given up",
@@ -121,7 +126,27 @@ fn answer_each<C: CountedLedger, T: CountedLedger, B: Room, R: Wait>(
     Ok(())
 }
 
-/// What four passes of a store are answered, as text.
+/// The commit number that an answer reports.
+fn commit_of(answer: &Answer) -> Option<u64> {
+    match answer {
+        Answer::Status(_, _, number) | Answer::Pinned(_, number) => Some(*number),
+        _ => None,
+    }
+}
+
+/// What answers print, and then the commit numbers that they report.
+fn numbered(alloc: Global, answers: &[Answer]) -> Result<String, AllocError> {
+    let mut text = printed(alloc, answers)?;
+    for answer in answers {
+        if let Some(number) = commit_of(answer) {
+            let line = format!(in alloc; "commit {number}\n")?;
+            text.push_str(line.as_str())?;
+        }
+    }
+    Ok(text)
+}
+
+/// What four passes of a store are answered, as text, through doors with the commit numbers.
 fn printed_by<C: CountedLedger, T: CountedLedger, B: Room, R: Wait>(
     rt: &R,
     alloc: Global,
@@ -133,7 +158,11 @@ fn printed_by<C: CountedLedger, T: CountedLedger, B: Room, R: Wait>(
     let mut answers = Vec::new(alloc);
     let done = answer_each(rt, shared, &mut passes, events, by_doors, &mut answers);
     drop(passes);
-    let text = printed(alloc, answers.as_slice());
+    let text = if by_doors {
+        numbered(alloc, answers.as_slice())
+    } else {
+        printed(alloc, answers.as_slice())
+    };
     drop(answers);
     done?;
     Ok(text?)
@@ -186,13 +215,13 @@ fn printed_by_passes<R: Wait>(
     )
 }
 
-/// What these events print by a store.
+/// What these events print by a store, with the commit numbers.
 fn printed_by_store(alloc: Global, events: &[Event]) -> Result<String, Refusal> {
     let mut store = Store::new(alloc, 4, "http://localhost")?;
     let answers = store.run(events);
     drop(store);
     let answers = answers?;
-    let text = printed(alloc, answers.as_slice());
+    let text = numbered(alloc, answers.as_slice());
     drop(answers);
     Ok(text?)
 }
@@ -217,22 +246,22 @@ fn with_heads(alloc: Global, input: &str) -> Result<String, Refusal> {
     Ok(text)
 }
 
-/// Whether the passes print what a store prints.
+/// Whether the passes print through their doors what a store prints, and report the same commit numbers.
 fn is_like_store<R: Wait>(rt: &R, alloc: Global, input: &str) -> Result<bool, Refusal> {
     let mut asked = events(alloc, input)?;
     let by_store = printed_by_store(alloc, asked.as_slice());
-    let by_passes = printed_by_passes(rt, alloc, &mut asked, false);
-    drop(asked);
-    Ok(by_store?.as_str() == by_passes?.as_str())
-}
-
-/// Whether the passes, through their doors, print what a schedule says.
-fn is_as_said<R: Wait>(rt: &R, alloc: Global, input: &str, want: &str) -> Result<bool, Refusal> {
-    let mut asked = events(alloc, input)?;
     let by_doors = printed_by_passes(rt, alloc, &mut asked, true);
     drop(asked);
+    Ok(by_store?.as_str() == by_doors?.as_str())
+}
+
+/// Whether the passes print what a schedule says.
+fn is_as_said<R: Wait>(rt: &R, alloc: Global, input: &str, want: &str) -> Result<bool, Refusal> {
+    let mut asked = events(alloc, input)?;
+    let by_passes = printed_by_passes(rt, alloc, &mut asked, false);
+    drop(asked);
     let says = answered(alloc, want)?;
-    Ok(by_doors?.as_str() == says.as_str())
+    Ok(by_passes?.as_str() == says.as_str())
 }
 
 /// Whether the passes print what a store prints, with the Heads, and what the schedule says, without.
@@ -263,6 +292,12 @@ fn other_row<R: Wait>(
 fn same_answers(rt: HostRuntime) -> Result<(), Fail> {
     assert_eq!(rt; other_row(&rt, rt.alloc(), &ROWS)?, None);
     assert_eq!(rt; other_row(&rt, rt.alloc(), &FED)?, None);
+    Ok(())
+}
+
+#[test]
+fn same_answers_on_condition(rt: HostRuntime) -> Result<(), Fail> {
+    assert_eq!(rt; other_row(&rt, rt.alloc(), &CONDITIONS)?, None);
     Ok(())
 }
 

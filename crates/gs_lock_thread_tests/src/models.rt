@@ -1,5 +1,5 @@
-//! A plain model of a store, apart from it: for each named graph its lines. It knows the requests of the
-//! rounds alone; the status of another is 0, which none has.
+//! A plain model of a store, apart from it: for each named graph its lines, and the number of the last
+//! write on it. It knows the requests of the threads alone; the status of another is 0, which none has.
 use gs_chronicle::{Request, Upload};
 use gs_core::{Op, Part, Pattern, Refusal, UploadKind};
 use gs_event::Scope;
@@ -7,17 +7,20 @@ use gs_ntwrite::line;
 use gs_term::{Target, Triple};
 use std::alloc::Global;
 
-/// A graph: its name, and its lines in their order, each once.
+/// A graph: its name, its lines in their order, each once, and the number of the last write on it.
 #[derive(Drop)]
 struct Graph {
     name: Vec<u8>,
     lines: Vec<Vec<u8>>,
+    written: u64,
 }
 
-/// All named graphs.
+/// All named graphs, how many writes took effect, and the number of the last deletion.
 #[derive(Drop)]
 pub struct Model {
     graphs: Vec<Graph>,
+    commit: u64,
+    removed: u64,
 }
 
 /// The name of a target, none for the default graph.
@@ -144,6 +147,8 @@ impl Model {
     pub fn new(alloc: Global) -> Model {
         Model {
             graphs: Vec::new(alloc),
+            commit: 0,
+            removed: 0,
         }
     }
 
@@ -156,34 +161,88 @@ impl Model {
         None
     }
 
+    /// The number of the last write on the graph at a place, and where there is none of the last deletion.
+    fn written(&self, place: Option<usize>) -> u64 {
+        match place {
+            Some(place) => match self.graphs.get(place) {
+                Some(graph) => graph.written,
+                None => self.removed,
+            },
+            None => self.removed,
+        }
+    }
+
+    /// Whether the graph at a place, or a missing one, was written after the commit of this number.
+    fn is_late(&self, place: Option<usize>, since: Option<u64>) -> bool {
+        match since {
+            Some(number) => self.written(place) > number,
+            None => false,
+        }
+    }
+
+    /// The number of one write more.
+    fn next(&mut self) -> u64 {
+        self.commit = self.commit.saturating_add(1);
+        self.commit
+    }
+
     fn put(&mut self, alloc: Global, name: &[u8], lines: Vec<Vec<u8>>) -> Result<u16, Refusal> {
+        let written = self.next();
         if let Some(place) = self.place(name) {
             if let Some(graph) = self.graphs.get_mut(place) {
                 graph.lines = lines;
+                graph.written = written;
             }
             return Ok(204);
         }
         let name = Vec::from_slice(alloc, name)?;
-        self.graphs.push(Graph { name, lines })?;
+        self.graphs.push(Graph {
+            name,
+            lines,
+            written,
+        })?;
         Ok(201)
     }
 
-    fn patch(&mut self, alloc: Global, name: &[u8], ops: &[Op]) -> Result<u16, Refusal> {
+    /// A PUT of what was staged, on its condition.
+    fn put_staged(&mut self, alloc: Global, name: &[u8], upload: &Upload) -> Result<u16, Refusal> {
+        if self.is_late(self.place(name), upload.since()) {
+            return Ok(412);
+        }
+        self.put(alloc, name, staged(alloc, upload)?)
+    }
+
+    fn patch(
+        &mut self,
+        alloc: Global,
+        name: &[u8],
+        ops: &[Op],
+        since: Option<u64>,
+    ) -> Result<u16, Refusal> {
         let Some(place) = self.place(name) else {
             return Ok(404);
         };
+        if self.is_late(Some(place), since) {
+            return Ok(412);
+        }
+        let written = self.next();
         if let Some(graph) = self.graphs.get_mut(place) {
             for op in ops {
                 graph.take(alloc, op)?;
             }
+            graph.written = written;
         }
         Ok(204)
     }
 
-    fn delete(&mut self, name: &[u8]) -> u16 {
+    fn delete(&mut self, name: &[u8], since: Option<u64>) -> u16 {
         match self.place(name) {
             Some(place) if place < self.graphs.len() => {
+                if self.is_late(Some(place), since) {
+                    return 412;
+                }
                 let _ = self.graphs.remove(place);
+                self.removed = self.next();
                 204
             }
             _ => 404,
@@ -205,11 +264,13 @@ impl Model {
     pub fn take(&mut self, alloc: Global, request: &Request) -> Result<u16, Refusal> {
         match request {
             Request::Upload(upload) => match upload.kind() {
-                UploadKind::Put(target) => self.put(alloc, name_of(target), staged(alloc, upload)?),
+                UploadKind::Put(target) => self.put_staged(alloc, name_of(target), upload),
                 UploadKind::Post(_) | UploadKind::New => Ok(0),
             },
-            Request::Patch(target, ops) => self.patch(alloc, name_of(target), ops.as_slice()),
-            Request::Delete(target) => Ok(self.delete(name_of(target))),
+            Request::Patch(target, ops, since) => {
+                self.patch(alloc, name_of(target), ops.as_slice(), *since)
+            }
+            Request::Delete(target, since) => Ok(self.delete(name_of(target), *since)),
             Request::Head(scope) | Request::Pin(scope) => Ok(self.status_of(scope)),
         }
     }

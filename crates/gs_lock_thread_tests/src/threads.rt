@@ -1,10 +1,11 @@
 //! Four threads that write, read, patch and delete graphs of their own and one that all share, and read all
-//! of them.
+//! of them; or count together in a graph of all.
 ghost use Rattle.std.specs.Prelude.{◌≡◌, ◌<◌, [], codes};
 ghost use Rattle.crossbeam_utils.specs.Seq.{cell_view};
 ghost use Rattle.gs_core.specs.Settings.{start_at};
 ghost use Rattle.gs_pass.specs.Stamps.{keeper as keeper_of};
 
+use crate::counts::{COUNTED, LAST, count, counts_of_puts};
 use crate::models::Model;
 use crate::moments::{is_moment, read_all as read_moment};
 use crate::replays::{counts_of_all, is_replayed, read, read_all, replays, stands};
@@ -27,6 +28,15 @@ const ROUNDS: u32 = 1_000;
 
 /// The graph that all write.
 const ALL: &str = "http://e/z";
+
+/// What threads do.
+#[derive(Clone, Copy)]
+enum Task {
+    /// Rounds on graphs of their own and on that of all.
+    Rounds,
+    /// To count in a graph of all.
+    Counts,
+}
 
 /// A seat, the number of a round, and what was wrong of it.
 type Fault = (u16, u32, &'static str);
@@ -68,21 +78,39 @@ fn both<C: CountedLedger, T: CountedLedger, B: Room, R: Wait>(
     Ok(if is_one { None } else { Some("all graphs") })
 }
 
-/// All rounds, and the first fault.
+/// All rounds: the first fault.
+fn work_rounds<C: CountedLedger, T: CountedLedger, B: Room, R: Wait>(
+    rt: &R,
+    alloc: Global,
+    store: &SharedStore<C, T, B>,
+    pass: &mut Pass<C, T, B>,
+) -> Option<Fault> {
+    let mut fault = None;
+    for round in 0..ROUNDS {
+        let wrong = both(rt, alloc, store, pass, round).unwrap_or(Some("a refusal"));
+        if let Some(part) = wrong {
+            fault = fault.or(Some((pass.seat(), round, part)));
+        }
+    }
+    fault
+}
+
+/// A task, and the first fault.
 fn work<C: CountedLedger, T: CountedLedger, B: Room, R: Wait>(
     rt: &R,
     alloc: Global,
     store: &SharedStore<C, T, B>,
     pass: Pass<C, T, B>,
+    task: Task,
 ) -> (Pass<C, T, B>, Option<Fault>) {
     let mut pass = pass;
-    let mut fault = None;
-    for round in 0..ROUNDS {
-        let wrong = both(rt, alloc, store, &mut pass, round).unwrap_or(Some("a refusal"));
-        if let Some(part) = wrong {
-            fault = fault.or(Some((pass.seat(), round, part)));
+    let fault = match task {
+        Task::Rounds => work_rounds(rt, alloc, store, &mut pass),
+        Task::Counts => {
+            let wrong = count(rt, alloc, store, &mut pass).unwrap_or(Some("a refusal"));
+            wrong.map(|part| (pass.seat(), 0, part))
         }
-    }
+    };
     (pass, fault)
 }
 
@@ -97,6 +125,7 @@ fn work_all<
     alloc: Global,
     store: &SharedStore<C, T, B>,
     passes: Vec<Pass<C, T, B>>,
+    task: Task,
 ) -> Option<(Vec<Pass<C, T, B>>, Option<Fault>)> {
     thread::scope(
         thread::scope_env(),
@@ -104,7 +133,9 @@ fn work_all<
         move |scope| -> Option<(Vec<Pass<C, T, B>>, Option<Fault>)> {
             let mut threads = Vec::with_capacity(alloc, 4).ok()?;
             for pass in passes {
-                let works = scope.spawn(move || work(rt, alloc, store, pass)).ok()?;
+                let works = scope
+                    .spawn(move || work(rt, alloc, store, pass, task))
+                    .ok()?;
                 threads.push(works).ok()?;
             }
             let mut back = Vec::with_capacity(alloc, 4).ok()?;
@@ -132,6 +163,7 @@ fn run<
     keeper: Token,
     calls: Blank,
     triples: Blank,
+    task: Task,
 ) -> Option<(Ended, Option<Fault>)>
     requires cell { (cell.table.shared.table_id ≡ B.table)
         × (keeper.table_id ≡ B.table)
@@ -155,7 +187,7 @@ fn run<
         drop(shared);
         return None;
     };
-    let Some(worked) = work_all(rt, alloc, shared.store(), passes) else {
+    let Some(worked) = work_all(rt, alloc, shared.store(), passes, task) else {
         drop(shared);
         return None;
     };
@@ -169,10 +201,14 @@ fn run<
 }
 
 /// What four threads leave, and the first fault of one of them.
-fn worked<R: Threads + Wait + Sync>(rt: &R, alloc: Global) -> Option<(Ended, Option<Fault>)> {
+fn worked<R: Threads + Wait + Sync>(
+    rt: &R,
+    alloc: Global,
+    task: Task,
+) -> Option<(Ended, Option<Fault>)> {
     let (cell, keeper) = stamp_cell(alloc).ok()?;
     let (calls, triples) = (Blank::new(5), Blank::new(5));
-    run::<Brand, Brand, Brand, R>(rt, alloc, cell, keeper, calls, triples)
+    run::<Brand, Brand, Brand, R>(rt, alloc, cell, keeper, calls, triples, task)
 }
 
 /// Whether the ended store shows a graph as the plain model has it.
@@ -259,8 +295,37 @@ fn wrong_part(alloc: Global, ended: &mut Ended) -> Result<Option<&'static str>, 
 
 #[test]
 fn four_threads_leave_a_page_that_replays(rt: HostRuntime) -> Result<(), Fail> {
-    let (mut ended, fault) = worked(&rt, rt.alloc()).expect(&rt, "memory and threads");
+    let left = worked(&rt, rt.alloc(), Task::Rounds);
+    let (mut ended, fault) = left.expect(&rt, "memory and threads");
     let wrong = wrong_part(rt.alloc(), &mut ended);
+    drop(ended);
+    assert_eq!(rt; fault, None);
+    assert_eq!(rt; wrong?, None);
+    Ok(())
+}
+
+/// What is wrong of the page that four threads leave that counted, or of the graph. Each of them wrote
+/// 1,000 numbers, and then came too late once with a write since the beginning; before the first number
+/// three others may have done so too.
+fn wrong_count(alloc: Global, ended: &mut Ended) -> Result<Option<&'static str>, Refusal> {
+    let page = ended.audited.page();
+    let (written, late) = counts_of_puts(page.entries());
+    if page.number() != 0 || written != 4_000 || late < 4 || late > 7 {
+        return Ok(Some("the page"));
+    }
+    if !is_replayed(alloc, page.entries())? {
+        return Ok(Some("the page does not replay"));
+    }
+    let shown = read(alloc, ended, COUNTED)?;
+    let is_last = shown.as_slice() == LAST;
+    Ok(if is_last { None } else { Some("the graph") })
+}
+
+#[test]
+fn four_threads_lose_no_number(rt: HostRuntime) -> Result<(), Fail> {
+    let left = worked(&rt, rt.alloc(), Task::Counts);
+    let (mut ended, fault) = left.expect(&rt, "memory and threads");
+    let wrong = wrong_count(rt.alloc(), &mut ended);
     drop(ended);
     assert_eq!(rt; fault, None);
     assert_eq!(rt; wrong?, None);

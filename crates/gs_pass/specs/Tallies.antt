@@ -28,17 +28,17 @@ IsFresh v = (v.receipts ≡ []) × (v.calls ≡ 0) × (v.triples ≡ 0)
 
 -- the kind and status of a deciding call that was not refused, from the action and its answer alone
 abbrev pub decides : Action → Answer → Option (ActionKind × ℕ)
-decides Commit (Status s name) = Some (CommitKind, s)
-decides (CommitPatch ops) (Status s name) = Some (PatchKind, s)
-decides (Delete t) (Status s name) = Some (DeleteKind, s)
-decides (Head c) (Status s name) = Some (HeadKind, s)
-decides (Pin c) (Pinned s) = Some (PinKind, s)
+decides Commit (Status s name number) = Some (CommitKind, s)
+decides (CommitPatch ops) (Status s name number) = Some (PatchKind, s)
+decides (Delete t since) (Status s name number) = Some (DeleteKind, s)
+decides (Head c) (Status s name number) = Some (HeadKind, s)
+decides (Pin c) (Pinned s number) = Some (PinKind, s)
 decides action a = None
 
 -- how many triples an action brings that was answered so: those of a Stage, and triples and patterns of a CommitPatch
 abbrev pub brought_by : Action → Answer → ℕ
 brought_by (Stage ts) Staged = length ts.items
-brought_by (CommitPatch ops) (Status s name) = ops_size ops.items
+brought_by (CommitPatch ops) (Status s name number) = ops_size ops.items
 brought_by action a = 0
 
 -- a count goes up, and stops at its last value

@@ -3,6 +3,7 @@ use Rattle.std.proofs.Common.{◌≡◌, ℕ, ◌≤◌, ◌-◌, ◌^◌, None,
 use Rattle.gs_model.specs.declared.refusals.Refusal.{Refusal}
 use Rattle.gs_model.specs.declared.refusals.Refusal.TheVariants.{BadSeat}
 use Rattle.gs_event.specs.Datasets.{empty_dataset}
+use Rattle.gs_event.specs.Conditions.{state_from}
 use Rattle.gs_event.specs.Views.{View}
 use Rattle.gs_door.specs.Kinds.{IsOfKind}
 use Rattle.gs_event.specs.declared.events.Action.{Action}
@@ -20,15 +21,15 @@ use Rattle.gs_shared.specs.Tells.{is_of_another, ToldBy}
 
 -- what an action asked decides with an answer what the action decides
 pub decided_of-ask_of_action : (action : Action) (a : Answer) → decided_of (ask_of_action action) a ≡ decides action a
-decided_of-ask_of_action Commit (Status s name) = refl
+decided_of-ask_of_action Commit (Status s name number) = refl
 decided_of-ask_of_action Commit a = refl
-decided_of-ask_of_action (CommitPatch ops) (Status s name) = refl
+decided_of-ask_of_action (CommitPatch ops) (Status s name number) = refl
 decided_of-ask_of_action (CommitPatch ops) a = refl
-decided_of-ask_of_action (Delete t) (Status s name) = refl
-decided_of-ask_of_action (Delete t) a = refl
-decided_of-ask_of_action (Head c) (Status s name) = refl
+decided_of-ask_of_action (Delete t since) (Status s name number) = refl
+decided_of-ask_of_action (Delete t since) a = refl
+decided_of-ask_of_action (Head c) (Status s name number) = refl
 decided_of-ask_of_action (Head c) a = refl
-decided_of-ask_of_action (Pin c) (Pinned s) = refl
+decided_of-ask_of_action (Pin c) (Pinned s number) = refl
 decided_of-ask_of_action (Pin c) a = refl
 decided_of-ask_of_action action a = refl
 
@@ -36,13 +37,13 @@ decided_of-ask_of_action action a = refl
 pub brought_of-ask_of_action : (action : Action) (a : Answer) → brought_of (ask_of_action action) a ≡ capped_count (brought_by action a)
 brought_of-ask_of_action (Stage ts) Staged = refl
 brought_of-ask_of_action (Stage ts) a = refl
-brought_of-ask_of_action Commit (Status s name) = refl
+brought_of-ask_of_action Commit (Status s name number) = refl
 brought_of-ask_of_action Commit a = refl
-brought_of-ask_of_action (CommitPatch ops) (Status s name) = refl
+brought_of-ask_of_action (CommitPatch ops) (Status s name number) = refl
 brought_of-ask_of_action (CommitPatch ops) a = refl
-brought_of-ask_of_action (Delete t) (Status s name) = refl
-brought_of-ask_of_action (Delete t) a = refl
-brought_of-ask_of_action (Head c) (Status s name) = refl
+brought_of-ask_of_action (Delete t since) (Status s name number) = refl
+brought_of-ask_of_action (Delete t since) a = refl
+brought_of-ask_of_action (Head c) (Status s name number) = refl
 brought_of-ask_of_action (Head c) a = refl
 brought_of-ask_of_action action a = refl
 
@@ -86,6 +87,7 @@ no_seats = record {
     dataset = empty_dataset;
     request = 0;
     commit = 0;
+    last_writes = (state_from 0).last_writes;
   };
   seats = [];
 }

@@ -22,7 +22,7 @@ use Rattle.gs_shared.proofs.DecisionLemmas.{size_if, staged_law, mark_law, some_
 
 -- where the page is still page 0 after a call, it has the call's stamp more
 stamps_law : (n k : ℕ) (p : PageView) (d : Decided) → (page_after n k p d).number ≡ 0
-    → (p.number ≡ 0) × (stamps_in (page_after n k p d).rows ≡ stamps_in p.rows ++ stamp d.seat (receipt (length (page_after n k p d).rows - 1) (action_kind_of d.operation) d.status) ∷ [])
+    → (p.number ≡ 0) × (stamps_in (page_after n k p d).rows ≡ stamps_in p.rows ++ stamp d.seat (receipt (length (page_after n k p d).rows - 1) (action_kind_of d.asked.operation) d.status) ∷ [])
 stamps_law n k p d = by_room (nat_lt k d.triples) (has_room n k p d)
   where
     row : Row
@@ -31,11 +31,11 @@ stamps_law n k p d = by_room (nat_lt k d.triples) (has_room n k p d)
     after : Bool → Bool → PageView
     after b c = if b then turned p else if c then with_row p d else with_row (turned p) d
 
-    by_room : (b c : Bool) → (after b c).number ≡ 0 → (p.number ≡ 0) × (stamps_in (after b c).rows ≡ stamps_in p.rows ++ stamp d.seat (receipt (length (after b c).rows - 1) (action_kind_of d.operation) d.status) ∷ [])
+    by_room : (b c : Bool) → (after b c).number ≡ 0 → (p.number ≡ 0) × (stamps_in (after b c).rows ≡ stamps_in p.rows ++ stamp d.seat (receipt (length (after b c).rows - 1) (action_kind_of d.asked.operation) d.status) ∷ [])
     by_room true c e = absurd (omega (arith, e))
     by_room false true e =
         let len : length p.rows ≡ length (p.rows ++ row ∷ []) - 1 = omega (arith, length-append p.rows (row ∷ [])) in
-        (e, map-append stamp_in p.rows (row ∷ []) ∙ ap (λ m. stamps_in p.rows ++ stamp d.seat (receipt m (action_kind_of d.operation) d.status) ∷ []) len)
+        (e, map-append stamp_in p.rows (row ∷ []) ∙ ap (λ m. stamps_in p.rows ++ stamp d.seat (receipt m (action_kind_of d.asked.operation) d.status) ∷ []) len)
     by_room false false e = absurd (omega (arith, e))
 
 -- the counts after a call

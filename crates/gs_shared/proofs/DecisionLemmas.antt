@@ -15,7 +15,7 @@ use Rattle.gs_event.specs.declared.events.Event.{Event}
 use Rattle.gs_event.specs.declared.events.Event.TheVariants.{Seat as At, Reclaim}
 use Rattle.gs_event.specs.declared.answers.Answer.{Answer}
 use Rattle.gs_event.specs.declared.answers.Answer.TheVariants.{Opened, Staged, Status, Pinned, Cancelled, Refused}
-use Rattle.gs_event.specs.Operations.{Operation}
+use Rattle.gs_event.specs.Conditions.{Asked}
 use Rattle.gs_event.specs.Phases.{Idle, Writing, Patching, Reading, operation_of}
 use Rattle.gs_event.specs.Views.{View, SeatView, Totals, Fits, FitsSeat}
 use Rattle.gs_chronicle.specs.declared.kinds.ActionKind.{ActionKind}
@@ -37,39 +37,39 @@ size_if (Some d) = d.triples
 -- the kind and status of what was decided
 abbrev pub mark_if : Option Decided → Option (ActionKind × ℕ)
 mark_if None = None
-mark_if (Some d) = Some (action_kind_of d.operation, d.status)
+mark_if (Some d) = Some (action_kind_of d.asked.operation, d.status)
 
 -- a call has at most the triples that it is for
-size_if-call_for : (s n status : ℕ) (o : Option Operation) → size_if (call_for s n status o) ≤ n
+size_if-call_for : (s n status : ℕ) (o : Option Asked) → size_if (call_for s n status o) ≤ n
 size_if-call_for s n status None = omega arith
 size_if-call_for s n status (Some q) = omega arith
 
 -- what a commit decides was staged, and is no more
 commit_law : (s n : ℕ) (p : SeatView) (a : Answer) → staged_since_open n Commit a + size_if (decided_at s p n Commit a) ≤ n
-commit_law s n p (Status x name) = let few = size_if-call_for s n x (operation_of p Commit (Status x name)) in omega (arith, few)
+commit_law s n p (Status x name number) = let few = size_if-call_for s n x (operation_of p Commit (Status x name number)) in omega (arith, few)
 commit_law s n Idle a = omega arith
-commit_law s n (Writing k r g) a = omega arith
-commit_law s n (Patching t r) a = omega arith
+commit_law s n (Writing k r g since) a = omega arith
+commit_law s n (Patching t r since) a = omega arith
 commit_law s n (Reading left) a = omega arith
 
 -- What is staged at a seat after an event, and what the event decided, was staged before it or came with it.
 seat_law : (s n : ℕ) (p : SeatView) (action : Action) (a : Answer) (more : ℕ) → IsSmallAction action → more ≡ capped_count (brought_by action a) → staged_since_open n action a + capped_count (size_if (decided_at s p n action a)) ≤ n + more
 seat_law s n p Commit a more small is = let few = commit_law s n p a in omega (arith, few)
-seat_law s n p (CommitPatch ops) (Status x name) more small is =
-    let few = size_if-call_for s (ops_size ops.items) x (operation_of p (CommitPatch ops) (Status x name)) in omega (arith, few, is)
+seat_law s n p (CommitPatch ops) (Status x name number) more small is =
+    let few = size_if-call_for s (ops_size ops.items) x (operation_of p (CommitPatch ops) (Status x name number)) in omega (arith, few, is)
 seat_law s n Idle (CommitPatch ops) a more small is = omega arith
-seat_law s n (Writing k r g) (CommitPatch ops) a more small is = omega arith
-seat_law s n (Patching t r) (CommitPatch ops) a more small is = omega arith
+seat_law s n (Writing k r g since) (CommitPatch ops) a more small is = omega arith
+seat_law s n (Patching t r since) (CommitPatch ops) a more small is = omega arith
 seat_law s n (Reading left) (CommitPatch ops) a more small is = omega arith
 seat_law s n p (Stage ts) Staged more small is =
     let few = size_if-call_for s 0 0 (operation_of p (Stage ts) Staged) in omega (arith, few, is, small)
 seat_law s n p (Stage ts) a more small is = let few = size_if-call_for s 0 (status_in a) (operation_of p (Stage ts) a) in omega (arith, few)
-seat_law s n p (Open k) (Opened r) more small is = let few = size_if-call_for s 0 0 (operation_of p (Open k) (Opened r)) in omega (arith, few)
-seat_law s n p (Open k) a more small is = let few = size_if-call_for s 0 (status_in a) (operation_of p (Open k) a) in omega (arith, few)
+seat_law s n p (Open k c) (Opened r) more small is = let few = size_if-call_for s 0 0 (operation_of p (Open k c) (Opened r)) in omega (arith, few)
+seat_law s n p (Open k c) a more small is = let few = size_if-call_for s 0 (status_in a) (operation_of p (Open k c) a) in omega (arith, few)
 seat_law s n p Cancel Cancelled more small is = let few = size_if-call_for s 0 0 (operation_of p Cancel Cancelled) in omega (arith, few)
 seat_law s n p Cancel a more small is = let few = size_if-call_for s 0 (status_in a) (operation_of p Cancel a) in omega (arith, few)
-seat_law s n p (OpenPatch t) a more small is = let few = size_if-call_for s 0 (status_in a) (operation_of p (OpenPatch t) a) in omega (arith, few)
-seat_law s n p (Delete t) a more small is = let few = size_if-call_for s 0 (status_in a) (operation_of p (Delete t) a) in omega (arith, few)
+seat_law s n p (OpenPatch t c) a more small is = let few = size_if-call_for s 0 (status_in a) (operation_of p (OpenPatch t c) a) in omega (arith, few)
+seat_law s n p (Delete t c) a more small is = let few = size_if-call_for s 0 (status_in a) (operation_of p (Delete t c) a) in omega (arith, few)
 seat_law s n p (Head c) a more small is = let few = size_if-call_for s 0 (status_in a) (operation_of p (Head c) a) in omega (arith, few)
 seat_law s n p (Pin c) a more small is = let few = size_if-call_for s 0 (status_in a) (operation_of p (Pin c) a) in omega (arith, few)
 seat_law s n p (Piece m) a more small is = let few = size_if-call_for s 0 (status_in a) (operation_of p (Piece m) a) in omega (arith, few)
@@ -97,47 +97,47 @@ staged_law v staged (At s action) a more small is = at (slice_get v.seats s)
 
 -- An idle seat: what it decides has the kind and status that the answer alone gives.
 idle_mark : (t : Totals) (s n : ℕ) (action : Action) (a : Answer) → FitsSeat t Idle action a → mark_if (decided_at s Idle n action a) ≡ decides action a
-idle_mark t s n Commit (Status x name) fits = absurd fits
-idle_mark t s n (CommitPatch ops) (Status x name) fits = absurd fits
-idle_mark t s n (Delete u) (Status x name) fits = refl
-idle_mark t s n (Head c) (Status x name) fits = refl
-idle_mark t s n (Pin c) (Pinned x) fits = refl
+idle_mark t s n Commit (Status x name number) fits = absurd fits
+idle_mark t s n (CommitPatch ops) (Status x name number) fits = absurd fits
+idle_mark t s n (Delete u c) (Status x name number) fits = refl
+idle_mark t s n (Head c) (Status x name number) fits = refl
+idle_mark t s n (Pin c) (Pinned x number) fits = refl
 idle_mark t s n action a fits = refl
 
 -- The same of a seat that writes.
-writing_mark : (t : Totals) (s n : ℕ) (k : UploadKind) (r : ℕ) (g : Graph) (action : Action) (a : Answer) → FitsSeat t (Writing k r g) action a → mark_if (decided_at s (Writing k r g) n action a) ≡ decides action a
-writing_mark t s n (Put u) r g Commit (Status x name) fits = refl
-writing_mark t s n (Post u) r g Commit (Status x name) fits = refl
-writing_mark t s n New r g Commit (Status x name) fits = refl
-writing_mark t s n k r g (CommitPatch ops) (Status x name) fits = absurd fits
-writing_mark t s n k r g (Delete u) (Status x name) fits = absurd fits
-writing_mark t s n k r g (Head c) (Status x name) fits = absurd fits
-writing_mark t s n k r g (Pin c) (Pinned x) fits = absurd fits
-writing_mark t s n k r g action a fits = refl
+writing_mark : (t : Totals) (s n : ℕ) (k : UploadKind) (r : ℕ) (g : Graph) (since : Option ℕ) (action : Action) (a : Answer) → FitsSeat t (Writing k r g since) action a → mark_if (decided_at s (Writing k r g since) n action a) ≡ decides action a
+writing_mark t s n (Put u) r g since Commit (Status x name number) fits = refl
+writing_mark t s n (Post u) r g since Commit (Status x name number) fits = refl
+writing_mark t s n New r g since Commit (Status x name number) fits = refl
+writing_mark t s n k r g since (CommitPatch ops) (Status x name number) fits = absurd fits
+writing_mark t s n k r g since (Delete u c) (Status x name number) fits = absurd fits
+writing_mark t s n k r g since (Head c) (Status x name number) fits = absurd fits
+writing_mark t s n k r g since (Pin c) (Pinned x number) fits = absurd fits
+writing_mark t s n k r g since action a fits = refl
 
 -- The same of a seat that patches.
-patching_mark : (t : Totals) (s n : ℕ) (u : Target) (r : ℕ) (action : Action) (a : Answer) → FitsSeat t (Patching u r) action a → mark_if (decided_at s (Patching u r) n action a) ≡ decides action a
-patching_mark t s n u r Commit (Status x name) fits = absurd fits
-patching_mark t s n u r (Delete w) (Status x name) fits = absurd fits
-patching_mark t s n u r (Head c) (Status x name) fits = absurd fits
-patching_mark t s n u r (Pin c) (Pinned x) fits = absurd fits
-patching_mark t s n u r (CommitPatch ops) (Status x name) fits = refl
-patching_mark t s n u r action a fits = refl
+patching_mark : (t : Totals) (s n : ℕ) (u : Target) (r : ℕ) (since : Option ℕ) (action : Action) (a : Answer) → FitsSeat t (Patching u r since) action a → mark_if (decided_at s (Patching u r since) n action a) ≡ decides action a
+patching_mark t s n u r since Commit (Status x name number) fits = absurd fits
+patching_mark t s n u r since (Delete w c) (Status x name number) fits = absurd fits
+patching_mark t s n u r since (Head c) (Status x name number) fits = absurd fits
+patching_mark t s n u r since (Pin c) (Pinned x number) fits = absurd fits
+patching_mark t s n u r since (CommitPatch ops) (Status x name number) fits = refl
+patching_mark t s n u r since action a fits = refl
 
 -- The same of a seat that reads.
 reading_mark : (t : Totals) (s n : ℕ) (left : List (List ℕ)) (action : Action) (a : Answer) → FitsSeat t (Reading left) action a → mark_if (decided_at s (Reading left) n action a) ≡ decides action a
-reading_mark t s n left Commit (Status x name) fits = absurd fits
-reading_mark t s n left (CommitPatch ops) (Status x name) fits = absurd fits
-reading_mark t s n left (Delete u) (Status x name) fits = absurd fits
-reading_mark t s n left (Head c) (Status x name) fits = absurd fits
-reading_mark t s n left (Pin c) (Pinned x) fits = absurd fits
+reading_mark t s n left Commit (Status x name number) fits = absurd fits
+reading_mark t s n left (CommitPatch ops) (Status x name number) fits = absurd fits
+reading_mark t s n left (Delete u c) (Status x name number) fits = absurd fits
+reading_mark t s n left (Head c) (Status x name number) fits = absurd fits
+reading_mark t s n left (Pin c) (Pinned x number) fits = absurd fits
 reading_mark t s n left action a fits = refl
 
 -- The same of any seat.
 seat_mark : (t : Totals) (s n : ℕ) (p : SeatView) (action : Action) (a : Answer) → FitsSeat t p action a → mark_if (decided_at s p n action a) ≡ decides action a
 seat_mark t s n Idle action a fits = idle_mark t s n action a fits
-seat_mark t s n (Writing k r g) action a fits = writing_mark t s n k r g action a fits
-seat_mark t s n (Patching u r) action a fits = patching_mark t s n u r action a fits
+seat_mark t s n (Writing k r g since) action a fits = writing_mark t s n k r g since action a fits
+seat_mark t s n (Patching u r since) action a fits = patching_mark t s n u r since action a fits
 seat_mark t s n (Reading left) action a fits = reading_mark t s n left action a fits
 
 -- What an event decided has the kind and status that what it asked gives with the answer.
@@ -150,9 +150,9 @@ mark_law v staged (At s action) a fits = at (slice_get v.seats s) fits
     at (Some p) fit = seat_mark v.totals s (slice_index staged s) p action a fit ∙ sym (decided_of-ask_of_action action a)
 
 -- What was decided is there where its kind and status are.
-pub some_decided : (o : Option Decided) (m : ActionKind × ℕ) → mark_if o ≡ Some m → (d : Decided) × (o ≡ Some d) × (action_kind_of d.operation ≡ m.0) × (d.status ≡ m.1)
+pub some_decided : (o : Option Decided) (m : ActionKind × ℕ) → mark_if o ≡ Some m → (d : Decided) × (o ≡ Some d) × (action_kind_of d.asked.operation ≡ m.0) × (d.status ≡ m.1)
 some_decided None m e = absurd (cc)
-some_decided (Some d) m e = let same : (action_kind_of d.operation, d.status) ≡ m = cc in (d, refl, ap (λ x. x.0) same, ap (λ x. x.1) same)
+some_decided (Some d) m e = let same : (action_kind_of d.asked.operation, d.status) ≡ m = cc in (d, refl, ap (λ x. x.0) same, ap (λ x. x.1) same)
 
 -- Nothing was decided where there is no kind and status.
 pub none_decided : (o : Option Decided) → mark_if o ≡ None → o ≡ None
@@ -168,10 +168,10 @@ own_decided v staged (At s action) a own d mine is = seat_is (slice_get v.seats 
     same true e n = grind (arith, nat_tests)
     same false e n = absurd (cc)
 
-    seat_of : (n status : ℕ) (o : Option Operation) → call_for s n status o ≡ Some d → d.seat ≡ s
+    seat_of : (n status : ℕ) (o : Option Asked) → call_for s n status o ≡ Some d → d.seat ≡ s
     seat_of n status None e = absurd (cc)
     seat_of n status (Some q) e =
-        let made : record { seat = s; operation = q; triples = n; status = status } ≡ d = cc in sym (ap (λ (x : Decided). x.seat) made)
+        let made : record { seat = s; asked = q; triples = n; status = status } ≡ d = cc in sym (ap (λ (x : Decided). x.seat) made)
 
     seat_is : (o : Option SeatView) → decided_if s o (slice_index staged s) action a ≡ Some d → d.seat ≡ s
     seat_is None e = absurd (cc)

@@ -21,7 +21,7 @@ use Rattle.gs_shared.specs.Tells.{is_of_another}
 -- what a new store shows
 pub began_new : (start : Start) (v : View) → v ≡ view_of start [] → BeganAs start v
 began_new start v is =
-    (ap (λ (w : View). w.totals.setting) is, ap (λ (w : View). length w.seats) is ∙ length-map-range_with_len (λ s. seat_view start.setting (phase_of [] s)) 0 start.seats)
+    (ap (λ (w : View). w.totals.setting) is, ap (λ (w : View). length w.seats) is ∙ length-map-range_with_len (λ s. seat_view start (phase_of [] s)) 0 start.seats)
 
 -- what a store shows after one event more
 pub began_next : (start : Start) (old new : View) (e : Event) (a : Answer) → new ≡ next_view old e a → BeganAs start old → BeganAs start new
@@ -34,16 +34,16 @@ began_next start old new (At s action) a is b = subst (BeganAs start) (sym is) (
 
 -- no answer of a seat that is there is BadSeat
 seat_knows : (w : Totals) (p : SeatView) (action : Action) → FitsSeat w p action (Refused BadSeat) → ⊥
-seat_knows w Idle (Open k) f = f
-seat_knows w Idle (OpenPatch t) f = f
-seat_knows w Idle (Delete t) f = f
+seat_knows w Idle (Open k _) f = f
+seat_knows w Idle (OpenPatch t _) f = f
+seat_knows w Idle (Delete t _) f = f
 seat_knows w Idle (Head c) f = f
 seat_knows w Idle (Pin c) f = f
-seat_knows w (Writing k r g) (Stage ts) f = f
-seat_knows w (Writing k r g) Commit f = f
-seat_knows w (Writing k r g) Cancel f = f
-seat_knows w (Patching t r) (CommitPatch ops) f = f
-seat_knows w (Patching t r) Cancel f = f
+seat_knows w (Writing k r g since) (Stage ts) f = f
+seat_knows w (Writing k r g since) Commit f = f
+seat_knows w (Writing k r g since) Cancel f = f
+seat_knows w (Patching t r since) (CommitPatch ops) f = f
+seat_knows w (Patching t r since) Cancel f = f
 seat_knows w (Reading left) (Piece n) f = f
 seat_knows w (Reading left) Cancel f = f
 seat_knows w p action f = f

@@ -22,7 +22,7 @@ abbrev pub ask_of_action : Action → EventAsk
 ask_of_action (Stage ts) = AsksStage (capped_count (length ts.items))
 ask_of_action Commit = AsksStatus CommitKind 0
 ask_of_action (CommitPatch ops) = AsksStatus PatchKind (capped_count (ops_size ops.items))
-ask_of_action (Delete t) = AsksStatus DeleteKind 0
+ask_of_action (Delete t since) = AsksStatus DeleteKind 0
 ask_of_action (Head c) = AsksStatus HeadKind 0
 ask_of_action (Pin c) = AsksPin
 ask_of_action action = AsksNothing
@@ -34,14 +34,14 @@ ask_of_event (Reclaim n) = AsksNothing
 
 -- the kind and status of a deciding call with this answer
 abbrev pub decided_of : EventAsk → Answer → Option (ActionKind × ℕ)
-decided_of (AsksStatus kind n) (Status s name) = Some (kind, s)
-decided_of AsksPin (Pinned s) = Some (PinKind, s)
+decided_of (AsksStatus kind n) (Status s name number) = Some (kind, s)
+decided_of AsksPin (Pinned s number) = Some (PinKind, s)
 decided_of asked a = None
 
 -- how many triples came with this answer
 abbrev pub brought_of : EventAsk → Answer → ℕ
 brought_of (AsksStage n) Staged = n
-brought_of (AsksStatus kind n) (Status s name) = n
+brought_of (AsksStatus kind n) (Status s name number) = n
 brought_of asked a = 0
 
 -- a number holds how many triples the action stages

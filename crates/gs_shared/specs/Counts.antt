@@ -7,7 +7,7 @@ use Rattle.gs_pass.specs.Stamps.{stamp, receipt}
 
 -- the stamp of a row
 abbrev pub stamp_in : Row → Stamp
-stamp_in r = stamp r.call.seat (receipt r.number (action_kind_of r.call.operation) r.call.status)
+stamp_in r = stamp r.call.seat (receipt r.number (action_kind_of r.call.asked.operation) r.call.status)
 
 -- the stamps of the rows of a page
 abbrev pub stamps_in : List Row → List Stamp

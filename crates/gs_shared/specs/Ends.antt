@@ -24,7 +24,7 @@ StandFrom from rows seat (r ∷ rs) =
     × (from ≤ r.number)
     × (slice_get rows r.number ≡ Some (record { number = r.number; call = call }))
     × (call.seat ≡ seat)
-    × (action_kind_of call.operation ≡ r.kind)
+    × (action_kind_of call.asked.operation ≡ r.kind)
     × (call.status ≡ r.status)
     × StandFrom (suc r.number) rows seat rs
 

@@ -42,10 +42,10 @@ impl EventAsk {
                 let triples = ops_size(ops.as_slice()).unwrap_or(usize::MAX);
                 EventAsk::Status(ActionKind::CommitPatch, triples as u64)
             }
-            Action::Delete(_) => EventAsk::Status(ActionKind::Delete, 0),
+            Action::Delete(_, _) => EventAsk::Status(ActionKind::Delete, 0),
             Action::Head(_) => EventAsk::Status(ActionKind::Head, 0),
             Action::Pin(_) => EventAsk::Pin,
-            Action::Open(_) | Action::OpenPatch(_) | Action::Piece(_) | Action::Cancel => {
+            Action::Open(_, _) | Action::OpenPatch(_, _) | Action::Piece(_) | Action::Cancel => {
                 EventAsk::Nothing
             }
         }
@@ -57,11 +57,11 @@ impl EventAsk {
     {
         match self {
             EventAsk::Status(kind, _) => match answer {
-                Answer::Status(status, _) => Some((kind, *status)),
+                Answer::Status(status, _, _) => Some((kind, *status)),
                 _ => None,
             },
             EventAsk::Pin => match answer {
-                Answer::Pinned(status) => Some((ActionKind::Pin, *status)),
+                Answer::Pinned(status, _) => Some((ActionKind::Pin, *status)),
                 _ => None,
             },
             EventAsk::Stage(_) | EventAsk::Nothing => None,
@@ -78,7 +78,7 @@ impl EventAsk {
                 _ => 0,
             },
             EventAsk::Status(_, triples) => match answer {
-                Answer::Status(_, _) => triples,
+                Answer::Status(_, _, _) => triples,
                 _ => 0,
             },
             EventAsk::Pin | EventAsk::Nothing => 0,

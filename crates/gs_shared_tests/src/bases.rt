@@ -28,7 +28,7 @@ fn create<C: CountedLedger, T: CountedLedger, B: Room, R: Wait>(
     let pass = passes.pop();
     drop(passes);
     let mut pass = pass?;
-    let opens = Event::Seat(pass.seat(), Action::Open(UploadKind::New));
+    let opens = Event::Seat(pass.seat(), Action::Open(UploadKind::New, None));
     drop(shared.event(rt, &mut pass, opens));
     let commits = Event::Seat(pass.seat(), Action::Commit);
     let answer = shared.event(rt, &mut pass, commits);
@@ -82,7 +82,7 @@ fn created<R: Wait>(rt: &R, alloc: Global) -> Option<Answer> {
 /// Whether a graph was created of this name.
 fn is_named(answer: &Answer, wanted: &[u8]) -> bool {
     match answer {
-        Answer::Status(201, Some(name)) => name.as_bytes() == wanted,
+        Answer::Status(201, Some(name), 1) => name.as_bytes() == wanted,
         _ => false,
     }
 }

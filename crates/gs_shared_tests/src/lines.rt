@@ -76,7 +76,12 @@ fn write<C: CountedLedger, T: CountedLedger, B: Room, R: Wait>(
     let Some(target) = target(alloc) else {
         return (pass, false);
     };
-    drop(act(rt, store, &mut pass, Action::Open(UploadKind::Put(target))));
+    drop(act(
+        rt,
+        store,
+        &mut pass,
+        Action::Open(UploadKind::Put(target), None),
+    ));
     for word in words {
         let mut list = Vec::new(alloc);
         if let Some(one) = triple(alloc, word) {
@@ -85,7 +90,7 @@ fn write<C: CountedLedger, T: CountedLedger, B: Room, R: Wait>(
         drop(act(rt, store, &mut pass, Action::Stage(list)));
     }
     let answer = act(rt, store, &mut pass, Action::Commit);
-    let is_right = matches!(&answer, Answer::Status(found, None) if *found == status);
+    let is_right = matches!(&answer, Answer::Status(found, None, _) if *found == status);
     drop(answer);
     (pass, is_right)
 }
@@ -99,19 +104,20 @@ fn scope_of(alloc: Global, reading: Reading) -> Option<Scope> {
     })
 }
 
-/// Begins a reading; whether that has status 200.
+/// Begins a reading; whether that has status 200 and the number of the last commit.
 fn pin<C: CountedLedger, T: CountedLedger, B: Room, R: Wait>(
     rt: &R,
     alloc: Global,
     store: &SharedStore<C, T, B>,
     pass: &mut Pass<C, T, B>,
     reading: Reading,
+    commit: u64,
 ) -> bool {
     let Some(scope) = scope_of(alloc, reading) else {
         return false;
     };
     let answer = act(rt, store, pass, Action::Pin(scope));
-    let is_right = matches!(answer, Answer::Pinned(200));
+    let is_right = matches!(answer, Answer::Pinned(200, number) if number == commit);
     drop(answer);
     is_right
 }
@@ -142,7 +148,7 @@ fn begin<C: CountedLedger, T: CountedLedger, B: Room, R: Wait>(
     reading: Reading,
 ) -> (Pass<C, T, B>, bool) {
     let mut pass = pass;
-    let is_right = pin(rt, alloc, store, &mut pass, reading)
+    let is_right = pin(rt, alloc, store, &mut pass, reading, 1)
         && reads(rt, store, &mut pass, reading.first, false);
     (pass, is_right)
 }
@@ -157,7 +163,7 @@ fn go_on<C: CountedLedger, T: CountedLedger, B: Room, R: Wait>(
 ) -> bool {
     let mut pass = pass;
     let is_right = reads(rt, store, &mut pass, reading.last, true)
-        && pin(rt, alloc, store, &mut pass, reading)
+        && pin(rt, alloc, store, &mut pass, reading, 2)
         && reads(rt, store, &mut pass, "", true);
     drop(pass);
     is_right

@@ -33,7 +33,7 @@ fn act<C: CountedLedger, T: CountedLedger, B: Room, R: Wait>(
     last: &mut Pass<C, T, B>,
 ) -> Outcome {
     let seat = own.seat();
-    let opens = Action::Open(UploadKind::Put(Target::Default));
+    let opens = Action::Open(UploadKind::Put(Target::Default), None);
     drop(shared.event(rt, own, Event::Seat(seat, opens)));
     let cancelled = shared.event(rt, last, Event::Seat(seat, Action::Cancel));
     let committed = shared.event(rt, last, Event::Seat(seat, Action::Commit));
@@ -139,7 +139,7 @@ fn wrong_part(seen: &Outcome) -> Option<&'static str> {
     if !matches!(committed, Answer::Refused(Refusal::BadSeat)) {
         return Some("another's Commit");
     }
-    if !matches!(seen.own, Answer::Status(204, None)) {
+    if !matches!(seen.own, Answer::Status(204, None, 1)) {
         return Some("the own Commit");
     }
     if seen.last == 511 {
