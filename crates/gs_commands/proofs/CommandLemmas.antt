@@ -36,12 +36,12 @@ numeral_some n h =
     zero_some (sym (ap numeral zero) ∙ h)
 
 action_some : (a : Action) (x : List ℕ) → SaysAction a x → ¬ (x ≡ [])
-action_some (Open k) x says h = let e = says.parts in cc
-action_some (OpenPatch t) x says h = let e = says.parts in cc
+action_some (Open k since) x says h = let e = says.parts in cc
+action_some (OpenPatch t since) x says h = let e = says.parts in cc
 action_some (Stage ts) x says h = let e = says.parts in cc
 action_some Commit x says h = cc
 action_some (CommitPatch ops) x says h = says
-action_some (Delete t) x says h = let e = says.parts in cc
+action_some (Delete t since) x says h = let e = says.parts in cc
 action_some (Head c) x says h = let e = says.parts in cc
 action_some (Pin c) x says h = let e = says.parts in cc
 action_some (Piece n) x says h = let e = says.parts in cc

@@ -73,12 +73,12 @@ words_first NTriples rest = (codes "eed nt " ++ rest, refl)
 words_first Turtle rest = (codes "eed ttl " ++ rest, refl)
 
 no_action : (a : Action) (x z : List ℕ) → x ≡ 102 ∷ z → ¬ SaysAction a x
-no_action (Open k) x z e says = first_differs 102 111 z (codes "pen " ++ says.rest) refl (sym e ∙ says.parts)
-no_action (OpenPatch t) x z e says = first_differs 102 111 z (codes "pen patch " ++ says.rest) refl (sym e ∙ says.parts)
+no_action (Open k since) x z e says = first_differs 102 111 z (codes "pen " ++ says.rest) refl (sym e ∙ says.parts)
+no_action (OpenPatch t since) x z e says = first_differs 102 111 z (codes "pen patch " ++ says.rest) refl (sym e ∙ says.parts)
 no_action (Stage ts) x z e says = first_differs 102 115 z (codes "tage " ++ says.rest) refl (sym e ∙ says.parts)
 no_action Commit x z e says = first_differs 102 99 z (codes "ommit") refl (sym e ∙ says)
 no_action (CommitPatch ops) x z e says = says
-no_action (Delete t) x z e says = first_differs 102 100 z (codes "elete " ++ says.rest) refl (sym e ∙ says.parts)
+no_action (Delete t since) x z e says = first_differs 102 100 z (codes "elete " ++ says.rest) refl (sym e ∙ says.parts)
 no_action (Head c) x z e says = first_differs 102 104 z (codes "ead " ++ says.rest) refl (sym e ∙ says.parts)
 no_action (Pin c) x z e says = first_differs 102 112 z (codes "in " ++ says.rest) refl (sym e ∙ says.parts)
 no_action (Piece n) x z e says = first_differs 102 112 z (codes "iece " ++ says.rest) refl (sym e ∙ says.parts)

@@ -1,7 +1,8 @@
 -- Words and numbers have one text.
-use Rattle.std.proofs.Common.{◌≡◌, ℕ, ◌^◌, ◌≤◌, ◌<◌, ◌==◌, true, false, List, [], ◌∷◌, ◌++◌, length, length-append, take, sym, ap, ◌∙◌, arith}
+use Rattle.std.proofs.Common.{◌≡◌, ℕ, ◌^◌, ◌≤◌, ◌<◌, Bool, true, false, ◌==◌, suc, List, [], ◌∷◌, ◌++◌, length, length-append, take, refl, sym, ap, ◌∙◌, arith}
 use Rattle.std.proofs.Math.Seq.{take-append_seam}
 use Rattle.std.proofs.lemmas.Bool.{eq-eqb}
+use Rattle.std.proofs.lemmas.Bool.Decides.{nat_tests}
 use Rattle.std.proofs.lemmas.Slice.Eq.{bytes_eq-Decides}
 use Rattle.std.specs.Fmt.{decimal}
 use Rattle.std.specs.Str.{bytes_eq}
@@ -51,3 +52,18 @@ unfolding head_of
 first_differs b c xs ys other e =
     let alike : (b == c) ≡ true = eq-eqb b c (ap head_of e) in
     let clash : false ≡ true = sym other ∙ alike in cc
+
+-- whether a list is empty, by the test of its length
+positive : (n : ℕ) → (suc n == 0) ≡ false
+positive n = grind (arith, nat_tests)
+
+pub filled : {X : Type 0} (x : List X) (b : Bool) → b ≡ (length x == 0) → b ≡ false → ¬ (x ≡ [])
+filled x b is some e =
+    let zero : b ≡ true = is ∙ ap (λ z. length z == 0) e in
+    let clash : false ≡ true = sym some ∙ zero in cc
+
+pub emptied : {X : Type 0} (x : List X) (b : Bool) → b ≡ (length x == 0) → b ≡ true → x ≡ []
+emptied [] b is none = refl
+emptied (c ∷ cs) b is none =
+    let some : b ≡ false = is ∙ positive (length cs) in
+    let clash : true ≡ false = sym none ∙ some in absurd (cc)

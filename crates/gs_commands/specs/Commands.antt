@@ -1,17 +1,12 @@
 -- What a line of a schedule says. Words are parted by one space.
-use Rattle.std.specs.Prelude.{◌≡◌, ◌⊎◌, ℕ, ◌≤◌, Bool, true, ◌==◌, List, [], ◌∷◌, ◌++◌, codes, if◌then◌else◌, Option, MatchOption}
+use Rattle.std.specs.Prelude.{◌≡◌, ◌⊎◌, ℕ, ◌≤◌, Bool, true, ◌==◌, List, [], ◌∷◌, ◌++◌, codes, if◌then◌else◌, Option, None, MatchOption}
 use Rattle.std.specs.Str.{IsUtf8}
-use Rattle.gs_model.specs.Characters.{line_feed, space, number_sign, less_than, greater_than}
+use Rattle.gs_model.specs.Characters.{line_feed, space, number_sign}
 use Rattle.gs_model.specs.Limits.{last_number, max_seats}
-use Rattle.gs_model.specs.Iris.{IsName}
 use Rattle.gs_model.specs.Terms.{numeral}
 use Rattle.gs_model.specs.Triples.{RdfTriple, IsTriple, line_of}
-use Rattle.gs_term.specs.declared.names.Target.{Target}
-use Rattle.gs_term.specs.declared.names.Target.TheVariants.{Default, Named}
 use Rattle.gs_event.specs.declared.events.UploadKind.{UploadKind}
 use Rattle.gs_event.specs.declared.events.UploadKind.TheVariants.{Put, Post, New}
-use Rattle.gs_event.specs.declared.events.Scope.{Scope}
-use Rattle.gs_event.specs.declared.events.Scope.TheVariants.{One, All}
 use Rattle.gs_event.specs.declared.events.Action.{Action}
 use Rattle.gs_event.specs.declared.events.Action.TheVariants.{Open, OpenPatch, Stage, Commit, CommitPatch, Delete, Head, Pin, Piece, Cancel}
 use Rattle.gs_event.specs.declared.events.Event.{Event}
@@ -21,6 +16,7 @@ use Rattle.gs_commands.specs.declared.commands.Command.TheVariants.{Nothing, Beg
 use Rattle.gs_upload.specs.declared.languages.Language.{Language}
 use Rattle.gs_upload.specs.declared.languages.Language.TheVariants.{NTriples, Turtle}
 use Rattle.gs_commands.specs.Found.{SaysNumber, SaysAfter, last_u16, last_u32, last_u64}
+use Rattle.gs_commands.specs.Targets.{SaysScope, SaysTargetSince}
 
 -- a character at the front of the first line, or as the only line where there is none
 abbrev pub before_first : ℕ → List (List ℕ) → List (List ℕ)
@@ -32,29 +28,11 @@ abbrev pub lines_in : List ℕ → List (List ℕ)
 lines_in [] = []
 lines_in (c ∷ cs) = if c == line_feed then [] ∷ lines_in cs else before_first c (lines_in cs)
 
--- the name of a graph, as it is
-abbrev pub SaysName : List ℕ → List ℕ → Type 0
-SaysName name x = (x ≡ name) × IsName name
-
--- a text between `<` and `>`
-abbrev pub bracketed : List ℕ → List ℕ
-bracketed x = less_than ∷ x ++ greater_than ∷ []
-
--- `default`, or a name between `<` and `>`
-abbrev pub SaysTarget : Target → List ℕ → Type 0
-SaysTarget Default x = x ≡ codes "default"
-SaysTarget (Named name) x = (x ≡ bracketed name) × IsName name
-
--- one graph, or `all`, which is no target
-abbrev pub SaysScope : Scope → List ℕ → Type 0
-SaysScope (One t) x = SaysTarget t x
-SaysScope All x = x ≡ codes "all"
-
--- what an upload is opened for
-abbrev pub SaysKind : UploadKind → List ℕ → Type 0
-SaysKind (Put t) x = SaysAfter (codes "put ") (SaysTarget t) x
-SaysKind (Post t) x = SaysAfter (codes "post ") (SaysTarget t) x
-SaysKind New x = x ≡ codes "new"
+-- what an upload is opened for, with such a number or without; a new graph has none
+abbrev pub SaysKind : UploadKind → Option ℕ → List ℕ → Type 0
+SaysKind (Put t) since x = SaysAfter (codes "put ") (SaysTargetSince t since) x
+SaysKind (Post t) since x = SaysAfter (codes "post ") (SaysTargetSince t since) x
+SaysKind New since x = (x ≡ codes "new") × (since ≡ None)
 
 -- a triple, by its canonical line
 abbrev pub SaysLine : RdfTriple → List ℕ → Type 0
@@ -72,12 +50,12 @@ SaysTriples (t ∷ u ∷ ts) x = ⊥
 
 -- the action of a seat; no line says a patch's commit, which comes of a text
 abbrev pub SaysAction : Action → List ℕ → Type 0
-SaysAction (Open k) x = SaysAfter (codes "open ") (SaysKind k) x
-SaysAction (OpenPatch t) x = SaysAfter (codes "open patch ") (SaysTarget t) x
+SaysAction (Open k since) x = SaysAfter (codes "open ") (SaysKind k since) x
+SaysAction (OpenPatch t since) x = SaysAfter (codes "open patch ") (SaysTargetSince t since) x
 SaysAction (Stage ts) x = SaysAfter (codes "stage ") (SaysTriples ts.items) x
 SaysAction Commit x = x ≡ codes "commit"
 SaysAction (CommitPatch ops) x = ⊥
-SaysAction (Delete t) x = SaysAfter (codes "delete ") (SaysTarget t) x
+SaysAction (Delete t since) x = SaysAfter (codes "delete ") (SaysTargetSince t since) x
 SaysAction (Head c) x = SaysAfter (codes "head ") (SaysScope c) x
 SaysAction (Pin c) x = SaysAfter (codes "pin ") (SaysScope c) x
 SaysAction (Piece n) x = SaysAfter (codes "piece ") (SaysNumber last_u32 n) x

@@ -6,6 +6,10 @@ use Rattle.gs_model.specs.Terms.{Term, IsTerm, numeral}
 abbrev pub Finds : {X : Type 0} → (X → List ℕ → Type 0) → List ℕ → Option X → Type 0
 Finds Says text found = MatchOption found ((x : _) → ¬ (Says x text)) (λ x. Says x text)
 
+-- the same of two values that a text says together
+abbrev pub FindsPair : {X Y : Type 0} → (X → Y → List ℕ → Type 0) → List ℕ → Option (X × Y) → Type 0
+FindsPair Says text found = MatchOption found ((x : _) (y : _) → ¬ (Says x y text)) (λ p. Says p.0 p.1 text)
+
 -- a word with a space after it, and then what the rest says
 pub record SaysAfter (word : List ℕ) (SaysRest : List ℕ → Type 0) (x : List ℕ) : Type 0 where
   pub rest : List ℕ

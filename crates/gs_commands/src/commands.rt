@@ -1,15 +1,16 @@
 //! What a line of a schedule says.
 ghost use Rattle.std.specs.Prelude.{◌≡◌, ◌++◌, ◌∷◌, [], List, ℕ, IfOk, MatchOption};
-ghost use Rattle.gs_commands.specs.Found.{Finds};
-ghost use Rattle.gs_commands.specs.Commands.{SaysName, SaysTarget, SaysScope, SaysKind, SaysTriple, SaysAction, SaysText, SaysFeed, SaysNothingAt, SaysStart, SaysCommand, FindsStage, FindsSeatEvent, bracketed, feed_words, is_skipped as is_skipped_line};
+ghost use Rattle.gs_commands.specs.Found.{Finds, FindsPair};
+ghost use Rattle.gs_commands.specs.Commands.{SaysKind, SaysTriple, SaysAction, SaysText, SaysFeed, SaysNothingAt, SaysStart, SaysCommand, FindsStage, FindsSeatEvent, feed_words, is_skipped as is_skipped_line};
 ghost use Rattle.gs_upload.specs.declared.languages.Language.{Language as ALanguage};
 
 use crate::lines::read_line;
 use crate::patches::read_patch;
+use crate::targets::{read_scope, read_target_since};
 use crate::words::{after, number, split};
-use gs_event::{Action, Event, Scope, UploadKind};
-use gs_model::{LAST_NUMBER, MAX_SEATS, memory_apart};
-use gs_term::{GraphName, Target, Triple};
+use gs_event::{Action, Event, UploadKind};
+use gs_model::{LAST_NUMBER, MAX_SEATS};
+use gs_term::Triple;
 use gs_upload::Language;
 use std::alloc::{AllocError, Global};
 
@@ -32,66 +33,24 @@ pub enum Command {
     Cut(u64),
 }
 
-/// The name of a graph, where the bytes are one.
-fn read_name(alloc: Global, bytes: &[u8]) -> Result<Option<GraphName>, AllocError>
-    ensures { IfOk result (Finds SaysName bytes.now) }
-{
-    let Ok(text) = str::from_utf8(bytes) else {
-        return Ok(None);
-    };
-    Ok(memory_apart(GraphName::new(alloc, text))?.ok())
-}
-
-/// What stands between `<` and `>`.
-fn between(text: &[u8]) -> Option<&[u8]>
-    ensures { MatchOption result ((name : List ℕ) → ¬ (text.now ≡ bracketed name))
-        (λ name. text.now ≡ bracketed name.now) }
-{
-    let Some((b'<', rest)) = text.split_first() else {
-        return None;
-    };
-    let Some((b'>', name)) = rest.split_last() else {
-        return None;
-    };
-    Some(name)
-}
-
-fn read_target(alloc: Global, text: &[u8]) -> Result<Option<Target>, AllocError>
-    ensures { IfOk result (Finds SaysTarget text.now) }
-{
-    if text == b"default".as_slice() {
-        return Ok(Some(Target::Default));
-    }
-    let Some(bytes) = between(text) else {
-        return Ok(None);
-    };
-    match read_name(alloc, bytes)? {
-        Some(name) => Ok(Some(Target::Named(name))),
-        None => Ok(None),
-    }
-}
-
-/// A target, or the word for all graphs, which is none.
-fn read_scope(alloc: Global, text: &[u8]) -> Result<Option<Scope>, AllocError>
-    ensures { IfOk result (Finds SaysScope text.now) }
-{
-    if text == b"all".as_slice() {
-        return Ok(Some(Scope::All));
-    }
-    Ok(read_target(alloc, text)?.map(Scope::One))
-}
-
-fn read_kind(alloc: Global, text: &[u8]) -> Result<Option<UploadKind>, AllocError>
-    ensures { IfOk result (Finds SaysKind text.now) }
+/// What an upload is opened for, and its condition.
+fn read_kind(alloc: Global, text: &[u8]) -> Result<Option<(UploadKind, Option<u64>)>, AllocError>
+    ensures { IfOk result (FindsPair SaysKind text.now) }
 {
     if text == b"new".as_slice() {
-        return Ok(Some(UploadKind::New));
+        return Ok(Some((UploadKind::New, None)));
     }
-    if let Some(target) = after(text, b"put ") {
-        return Ok(read_target(alloc, target)?.map(UploadKind::Put));
+    if let Some(rest) = after(text, b"put ") {
+        return match read_target_since(alloc, rest)? {
+            Some((target, since)) => Ok(Some((UploadKind::Put(target), since))),
+            None => Ok(None),
+        };
     }
-    if let Some(target) = after(text, b"post ") {
-        return Ok(read_target(alloc, target)?.map(UploadKind::Post));
+    if let Some(rest) = after(text, b"post ") {
+        return match read_target_since(alloc, rest)? {
+            Some((target, since)) => Ok(Some((UploadKind::Post(target), since))),
+            None => Ok(None),
+        };
     }
     Ok(None)
 }
@@ -132,17 +91,26 @@ fn read_action(alloc: Global, text: &[u8]) -> Result<Option<Action>, AllocError>
     if text == b"cancel".as_slice() {
         return Ok(Some(Action::Cancel));
     }
-    if let Some(target) = after(text, b"open patch ") {
-        return Ok(read_target(alloc, target)?.map(Action::OpenPatch));
+    if let Some(rest) = after(text, b"open patch ") {
+        return match read_target_since(alloc, rest)? {
+            Some((target, since)) => Ok(Some(Action::OpenPatch(target, since))),
+            None => Ok(None),
+        };
     }
-    if let Some(kind) = after(text, b"open ") {
-        return Ok(read_kind(alloc, kind)?.map(Action::Open));
+    if let Some(rest) = after(text, b"open ") {
+        return match read_kind(alloc, rest)? {
+            Some((kind, since)) => Ok(Some(Action::Open(kind, since))),
+            None => Ok(None),
+        };
     }
     if let Some(line) = after(text, b"stage ") {
         return read_stage(alloc, line);
     }
-    if let Some(target) = after(text, b"delete ") {
-        return Ok(read_target(alloc, target)?.map(Action::Delete));
+    if let Some(rest) = after(text, b"delete ") {
+        return match read_target_since(alloc, rest)? {
+            Some((target, since)) => Ok(Some(Action::Delete(target, since))),
+            None => Ok(None),
+        };
     }
     if let Some(scope) = after(text, b"head ") {
         return Ok(read_scope(alloc, scope)?.map(Action::Head));

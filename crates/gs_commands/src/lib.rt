@@ -4,6 +4,7 @@
 mod commands;
 mod lines;
 mod patches;
+mod targets;
 mod words;
 
 pub use commands::{Command, read_command};

@@ -28,7 +28,7 @@ use Rattle.gs_drill.proofs.SeatLemmas.{set_same, AreFed-unfed}
 -- what a seat holds after an answer, where `by` says what an action opened
 held_next : (Action → ℕ → Option Opening) → Option Opening → Action → Answer → Option Opening
 held_next by o action (Opened r) = by action r
-held_next by o action (Status s name) = None
+held_next by o action (Status s name number) = None
 held_next by o action Cancelled = None
 held_next by o action a = o
 
@@ -47,21 +47,21 @@ given_none false left = refl
 -- the phase that is next has the opening that the answer leaves
 opening_next : Leads opening_of opened_by
 unfolding held_next Leads
-opening_next t Idle (Open k) (Opened r) fits = refl
-opening_next t Idle (OpenPatch x) (Opened r) fits = refl
+opening_next t Idle (Open k since) (Opened r) fits = refl
+opening_next t Idle (OpenPatch x since) (Opened r) fits = refl
 opening_next t Idle action (Opened r) fits = absurd fits
-opening_next t (Writing k r g) Commit (Opened q) fits = absurd fits
-opening_next t (Writing k r g) action (Opened q) fits = absurd fits
-opening_next t (Patching x r) (CommitPatch ops) (Opened q) fits = absurd fits
-opening_next t (Patching x r) Cancel (Opened q) fits = absurd fits
-opening_next t (Patching x r) action (Opened q) fits = absurd fits
+opening_next t (Writing k r g since) Commit (Opened q) fits = absurd fits
+opening_next t (Writing k r g since) action (Opened q) fits = absurd fits
+opening_next t (Patching x r since) (CommitPatch ops) (Opened q) fits = absurd fits
+opening_next t (Patching x r since) Cancel (Opened q) fits = absurd fits
+opening_next t (Patching x r since) action (Opened q) fits = absurd fits
 opening_next t (Reading left) Cancel (Opened r) fits = absurd fits
 opening_next t (Reading left) action (Opened r) fits = absurd fits
-opening_next t (Writing k r g) Commit (Status s name) fits = refl
-opening_next t (Writing k r g) Cancel Cancelled fits = refl
-opening_next t (Writing k r g) action (Status s name) fits = absurd fits
-opening_next t (Writing k r g) action Cancelled fits = absurd fits
-opening_next t Idle (Pin x) (Pinned s) fits = pinned_none (nat_eq s 200) _
+opening_next t (Writing k r g since) Commit (Status s name number) fits = refl
+opening_next t (Writing k r g since) Cancel Cancelled fits = refl
+opening_next t (Writing k r g since) action (Status s name number) fits = absurd fits
+opening_next t (Writing k r g since) action Cancelled fits = absurd fits
+opening_next t Idle (Pin x) (Pinned s number) fits = pinned_none (nat_eq s 200) _
 opening_next t (Reading left) (Piece n) (Lines b end) fits = given_none end _
 opening_next t p action a fits = refl
 
@@ -76,28 +76,28 @@ no_patch_given false left = refl
 -- the phase that is next has the patch that the answer leaves
 patch_next : Leads patch_of patch_opened_by
 unfolding held_next Leads
-patch_next t Idle (Open k) (Opened r) fits = refl
-patch_next t Idle (OpenPatch x) (Opened r) fits = refl
+patch_next t Idle (Open k since) (Opened r) fits = refl
+patch_next t Idle (OpenPatch x since) (Opened r) fits = refl
 patch_next t Idle action (Opened r) fits = absurd fits
-patch_next t (Writing k r g) Commit (Opened q) fits = absurd fits
-patch_next t (Writing k r g) action (Opened q) fits = absurd fits
-patch_next t (Patching x r) (CommitPatch ops) (Opened q) fits = absurd fits
-patch_next t (Patching x r) Cancel (Opened q) fits = absurd fits
-patch_next t (Patching x r) action (Opened q) fits = absurd fits
+patch_next t (Writing k r g since) Commit (Opened q) fits = absurd fits
+patch_next t (Writing k r g since) action (Opened q) fits = absurd fits
+patch_next t (Patching x r since) (CommitPatch ops) (Opened q) fits = absurd fits
+patch_next t (Patching x r since) Cancel (Opened q) fits = absurd fits
+patch_next t (Patching x r since) action (Opened q) fits = absurd fits
 patch_next t (Reading left) Cancel (Opened r) fits = absurd fits
 patch_next t (Reading left) action (Opened r) fits = absurd fits
-patch_next t (Patching x r) (CommitPatch ops) (Status s name) fits = refl
-patch_next t (Patching x r) Cancel Cancelled fits = refl
-patch_next t (Patching x r) action (Status s name) fits = absurd fits
-patch_next t (Patching x r) action Cancelled fits = absurd fits
-patch_next t Idle (Pin x) (Pinned s) fits = no_patch_pinned (nat_eq s 200) _
+patch_next t (Patching x r since) (CommitPatch ops) (Status s name number) fits = refl
+patch_next t (Patching x r since) Cancel Cancelled fits = refl
+patch_next t (Patching x r since) action (Status s name number) fits = absurd fits
+patch_next t (Patching x r since) action Cancelled fits = absurd fits
+patch_next t Idle (Pin x) (Pinned s number) fits = no_patch_pinned (nat_eq s 200) _
 patch_next t (Reading left) (Piece n) (Lines b end) fits = no_patch_given end _
 patch_next t p action a fits = refl
 
 reset_at : (by : Action → ℕ → Option Opening) (os : List (Option Opening)) (s : ℕ) (action : Action) (a : Answer) (o : Option Opening) → slice_get os s ≡ Some o → held_reset by os s action a ≡ slice_set os s (held_next by o action a)
 unfolding held_next
 reset_at by os s action (Opened r) o is = refl
-reset_at by os s action (Status status name) o is = refl
+reset_at by os s action (Status status name number) o is = refl
 reset_at by os s action Cancelled o is = refl
 reset_at by os s action a o is = sym (set_same os s o is)
 
@@ -130,7 +130,7 @@ texts_length false bs s = refl
 
 reset_length : (os : List (Option Opening)) (s : ℕ) (action : Action) (a : Answer) → length (held_reset opened_by os s action a) ≡ length os
 reset_length os s action (Opened r) = length-set os s (opened_by action r)
-reset_length os s action (Status status name) = length-set os s None
+reset_length os s action (Status status name number) = length-set os s None
 reset_length os s action Cancelled = length-set os s None
 reset_length os s action a = refl
 

@@ -73,8 +73,8 @@ FeedsRow (Some (Some o)) n d s l y text e = FeedsUpload n (first_context l o) d 
 by_phase : (q : Option SeatView) (n : ℕ) (d : Desk) (s : ℕ) (l : Language) (y text : List ℕ) (e : Desk) → FeedsRow (option_map opening_of q) n d s l y text e → MatchOption q (RefusesText BadSeat d text e) (λ p. FeedsSeat p n d s l y text e)
 by_phase None n d s l y text e h = h
 by_phase (Some Idle) n d s l y text e h = h
-by_phase (Some (Writing k r g)) n d s l y text e h = h
-by_phase (Some (Patching t r)) n d s l y text e h = h
+by_phase (Some (Writing k r g since)) n d s l y text e h = h
+by_phase (Some (Patching t r since)) n d s l y text e h = h
 by_phase (Some (Reading left)) n d s l y text e h = h
 
 pub feeds_by : (n : ℕ) (shown : Shown) (u : Uploads) (st : Standing shown u) (s : ℕ) (l : Language) (y text : List ℕ) (e : Desk) (o : Option (Option Opening)) → slice_get u.openings.items s ≡ o → FeedsRow o n (desk_of st) s l y text e → DoesFeed n (desk_of st) s l y text e

@@ -55,8 +55,8 @@ PatchesRow (Some (Some o)) d s y text e = SettlesPatch (request_by (base_under o
 by_phase : (q : Option SeatView) (d : Desk) (s : ℕ) (y text : List ℕ) (e : Desk) → PatchesRow (option_map patch_of q) d s y text e → MatchOption q (RefusesText refusal.BadSeat d text e) (λ p. PatchesSeat p d s y text e)
 by_phase None d s y text e h = h
 by_phase (Some Idle) d s y text e h = h
-by_phase (Some (Writing k r g)) d s y text e h = h
-by_phase (Some (Patching t r)) d s y text e h = h
+by_phase (Some (Writing k r g since)) d s y text e h = h
+by_phase (Some (Patching t r since)) d s y text e h = h
 by_phase (Some (Reading left)) d s y text e h = h
 
 -- what a patch does, by the row of its seat

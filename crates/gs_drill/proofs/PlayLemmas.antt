@@ -1,6 +1,5 @@
 -- How a command, a line and a run of lines come out.
-use Rattle.std.proofs.Common.{◌≡◌, ◌≢◌, ℕ, ◌+◌, ◌<◌, ◌≤◌, Bool, true, false, ◌==◌, suc, List, [], ◌∷◌, ◌++◌, length, Option, Some, Result, Ok, Err, refl, sym, ap, ◌∙◌, subst, append_assoc, append-nil, arith, length-append}
-use Rattle.std.proofs.lemmas.Bool.Decides.{nat_tests}
+use Rattle.std.proofs.Common.{◌≡◌, ◌≢◌, ℕ, ◌+◌, ◌<◌, ◌≤◌, List, [], ◌∷◌, ◌++◌, length, Option, Some, Result, Ok, Err, refl, sym, ap, ◌∙◌, subst, append_assoc, append-nil, arith, length-append}
 use Rattle.std.specs.Io.KnownBytes.{Appends}
 use Rattle.gs_model.specs.Texts.{split_first}
 use Rattle.gs_event.specs.declared.events.Event.{Event}
@@ -141,20 +140,6 @@ Playing-ends input rest line n s after old mid new Failed p some line_is takes =
 -- before the first line
 pub Halts-none : (input : List ℕ) (old : Option (List ℕ)) → Halts (Some input) old old
 Halts-none input old = record { input = input; read = refl; before = []; after = lines_in input; parts = refl; text = []; last = first_state; plays = (refl, refl); written = Appends-none old }
-
-positive : (n : ℕ) → (suc n == 0) ≡ false
-positive n = grind (arith, nat_tests)
-
-pub filled : {X : Type 0} (x : List X) (b : Bool) → b ≡ (length x == 0) → b ≡ false → ¬ (x ≡ [])
-filled x b is some e =
-    let zero : b ≡ true = is ∙ ap (λ z. length z == 0) e in
-    let clash : false ≡ true = sym some ∙ zero in cc
-
-pub emptied : {X : Type 0} (x : List X) (b : Bool) → b ≡ (length x == 0) → b ≡ true → x ≡ []
-emptied [] b is none = refl
-emptied (c ∷ cs) b is none =
-    let some : b ≡ false = is ∙ positive (length cs) in
-    let clash : true ≡ false = sym none ∙ some in absurd (cc)
 
 pub shorter : (x after : List ℕ) → ¬ (x ≡ []) → after ≡ (split_first 10 x).1 → length after < length x
 shorter x after some is = let P : List ℕ → Type 0 = λ z. length z < length x in subst P (sym is) (length-split x some)

@@ -36,7 +36,7 @@ desk_with d s f = record { shown = d.shown; fed = with_fed d.fed s f }
 -- the answer says that an upload, a patch or a read begins anew or ends
 abbrev pub is_boundary : Answer → Bool
 is_boundary (Opened r) = true
-is_boundary (Status s name) = true
+is_boundary (Status s name number) = true
 is_boundary Cancelled = true
 is_boundary a = false
 
@@ -81,8 +81,8 @@ RefusesText refusal d text e = (text ≡ answer_text (Refused refusal)) × (e �
 -- the same by what the seat is doing: one that has no upload has no text to feed
 abbrev pub FeedsSeat : SeatView → ℕ → Desk → ℕ → Language → List ℕ → List ℕ → Desk → Type 0
 FeedsSeat Idle n d s l y text e = RefusesText WrongPhase d text e
-FeedsSeat (Writing k r g) n d s l y text e = FeedsUpload n (record { language = l; base = first_base k; request = r }) d s y text e
-FeedsSeat (Patching t r) n d s l y text e = RefusesText WrongPhase d text e
+FeedsSeat (Writing k r g since) n d s l y text e = FeedsUpload n (record { language = l; base = first_base k; request = r }) d s y text e
+FeedsSeat (Patching t r since) n d s l y text e = RefusesText WrongPhase d text e
 FeedsSeat (Reading left) n d s l y text e = RefusesText WrongPhase d text e
 
 -- y, in language l, is fed in pieces of n bytes to seat s, which prints the text

@@ -15,13 +15,13 @@ use Rattle.gs_drill.specs.Feeds.{is_boundary}
 
 -- the patch that an action opened, by the number of its request; no other action opened one
 abbrev pub patch_opened_by : Action → ℕ → Option Opening
-patch_opened_by (OpenPatch t) r = Some (patch_opening t r)
+patch_opened_by (OpenPatch t since) r = Some (patch_opening t r)
 patch_opened_by action r = None
 
 -- what the seats hold after an answer to seat s, where `by` says what an action opened
 abbrev pub held_reset : (Action → ℕ → Option Opening) → List (Option Opening) → ℕ → Action → Answer → List (Option Opening)
 held_reset by os s action (Opened r) = slice_set os s (by action r)
-held_reset by os s action (Status status name) = slice_set os s None
+held_reset by os s action (Status status name number) = slice_set os s None
 held_reset by os s action Cancelled = slice_set os s None
 held_reset by os s action a = os
 

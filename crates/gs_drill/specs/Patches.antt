@@ -40,8 +40,8 @@ SettlesPatch q d s text e = SettlesBy q.1 q d s text e
 -- y is read for the patch of seat s, by what the seat is doing: one that has no patch has no text to read
 abbrev pub PatchesSeat : SeatView → Desk → ℕ → List ℕ → List ℕ → Desk → Type 0
 PatchesSeat Idle d s y text e = RefusesText WrongPhase d text e
-PatchesSeat (Writing k r g) d s y text e = RefusesText WrongPhase d text e
-PatchesSeat (Patching t r) d s y text e = SettlesPatch (request_by (base_under (name_in t)) r y) d s text e
+PatchesSeat (Writing k r g since) d s y text e = RefusesText WrongPhase d text e
+PatchesSeat (Patching t r since) d s y text e = SettlesPatch (request_by (base_under (name_in t)) r y) d s text e
 PatchesSeat (Reading left) d s y text e = RefusesText WrongPhase d text e
 
 -- y, the text of an update, is given to seat s, which prints the text

@@ -1,5 +1,5 @@
 -- What the answers of a store print.
-use Rattle.std.specs.Prelude.{◌≡◌, ℕ, List, [], ◌∷◌, ◌++◌, if◌then◌else◌, codes, Option, None, Some, Result, MatchResult}
+use Rattle.std.specs.Prelude.{◌≡◌, ℕ, nat_eq, List, [], ◌∷◌, ◌++◌, if◌then◌else◌, codes, Option, None, Some, Result, MatchResult}
 use Rattle.std.specs.Io.KnownBytes.{Appends}
 use Rattle.gs_model.specs.Characters.{line_feed, space}
 use Rattle.gs_model.specs.Terms.{numeral}
@@ -9,17 +9,21 @@ use Rattle.gs_event.specs.declared.answers.Answer.TheVariants.{Opened, Staged, S
 use Rattle.gs_drill.specs.declared.printing.Reply.{Reply}
 use Rattle.gs_drill.specs.declared.printing.Reply.TheVariants.{Answered, Taken, Fault, Outside}
 
--- what stands after a status: a space and the name of the graph that was made up, if one was
+-- a space and the name of the graph that was made up, if one was
 abbrev pub location_text : Option (List ℕ) → List ℕ
 location_text None = []
 location_text (Some name) = space ∷ name
+
+-- what stands after a status: after 412 a space and the number of the last write, and after any other the name
+abbrev pub note_text : ℕ → Option (List ℕ) → ℕ → List ℕ
+note_text s name number = if nat_eq s 412 then space ∷ numeral number else location_text name
 
 -- one line; the lines of a piece, and then a line
 abbrev pub answer_text : Answer → List ℕ
 answer_text (Opened r) = codes "opened " ++ numeral r ++ line_feed ∷ []
 answer_text Staged = codes "staged" ++ line_feed ∷ []
-answer_text (Status s name) = numeral s ++ location_text name ++ line_feed ∷ []
-answer_text (Pinned s) = numeral s ++ line_feed ∷ []
+answer_text (Status s name number) = numeral s ++ note_text s name number ++ line_feed ∷ []
+answer_text (Pinned s number) = numeral s ++ line_feed ∷ []
 answer_text (Lines lines is_end) = lines.items ++ (if is_end then codes "end" else codes "more") ++ line_feed ∷ []
 answer_text Cancelled = codes "cancelled" ++ line_feed ∷ []
 answer_text (Reclaimed freed left) = codes "reclaimed " ++ numeral freed ++ (if left then codes " more" else codes " done") ++ line_feed ∷ []

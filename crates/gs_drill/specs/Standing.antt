@@ -20,15 +20,15 @@ use Rattle.gs_drill.specs.Drills.{RunState, new_state}
 -- what opened the upload that the seat has
 abbrev pub opening_of : SeatView → Option Opening
 opening_of Idle = None
-opening_of (Writing k r g) = Some (record { request = r; target = target_name k })
-opening_of (Patching t r) = None
+opening_of (Writing k r g since) = Some (record { request = r; target = target_name k })
+opening_of (Patching t r since) = None
 opening_of (Reading left) = None
 
 -- what opened the patch that the seat has
 abbrev pub patch_of : SeatView → Option Opening
 patch_of Idle = None
-patch_of (Writing k r g) = None
-patch_of (Patching t r) = Some (patch_opening t r)
+patch_of (Writing k r g since) = None
+patch_of (Patching t r since) = Some (patch_opening t r)
 patch_of (Reading left) = None
 
 -- what was fed to each seat; nothing was fed to a seat that is not there

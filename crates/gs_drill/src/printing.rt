@@ -3,9 +3,10 @@ ghost use Rattle.std.specs.Prelude.{◌≡◌, ◌++◌, ◌∷◌, [], codes, �
 ghost use Rattle.std.specs.Io.KnownBytes.{Appends};
 ghost use Rattle.gs_model.specs.Characters.{line_feed};
 ghost use Rattle.gs_model.specs.Terms.{numeral};
-ghost use Rattle.gs_drill.specs.Printing.{Writes, answer_text, reply_text, counts_text, no_command_text, no_memory_text};
+ghost use Rattle.gs_drill.specs.Printing.{Writes, note_text, answer_text, reply_text, counts_text, no_command_text, no_memory_text};
 
 use gs_event::Answer;
+use gs_term::GraphName;
 use itoa::Buffer;
 use std::io::{self, ErrorKind, Write};
 
@@ -92,6 +93,28 @@ fn shown(buffer: &mut Buffer, n: u64) -> &[u8]
     buffer.format(n).as_bytes()
 }
 
+/// Writes a status, and what stands after it.
+fn put_status<W: Write>(
+    out: &mut W,
+    status: u16,
+    name: &Option<GraphName>,
+    number: u64,
+) -> io::Result<()>
+    ensures { Writes (W.contents out.old) (W.contents out.new)
+        (numeral status ++ note_text status name.now number ++ line_feed ∷ []) result }
+{
+    let mut first = Buffer::new();
+    let digits = shown(&mut first, u64::from(status));
+    if status == 412 {
+        let mut second = Buffer::new();
+        return put_line(out, b"", digits, b" ", shown(&mut second, number));
+    }
+    match name {
+        None => put_pair(out, digits, b""),
+        Some(name) => put_line(out, b"", digits, b" ", name.as_bytes()),
+    }
+}
+
 /// Writes what an answer prints. It takes no memory.
 pub fn print_answer<W: Write>(out: &mut W, answer: &Answer) -> io::Result<()>
     ensures { Writes (W.contents out.old) (W.contents out.new) (answer_text answer.now) result }
@@ -100,14 +123,8 @@ pub fn print_answer<W: Write>(out: &mut W, answer: &Answer) -> io::Result<()>
     match answer {
         Answer::Opened(request) => put_pair(out, b"opened ", shown(&mut buffer, *request)),
         Answer::Staged => put_pair(out, b"staged", b""),
-        Answer::Status(status, None) => {
-            put_pair(out, shown(&mut buffer, u64::from(*status)), b"")
-        }
-        Answer::Status(status, Some(name)) => {
-            let status = shown(&mut buffer, u64::from(*status));
-            put_line(out, b"", status, b" ", name.as_bytes())
-        }
-        Answer::Pinned(status) => put_pair(out, b"", shown(&mut buffer, u64::from(*status))),
+        Answer::Status(status, name, number) => put_status(out, *status, name, *number),
+        Answer::Pinned(status, _) => put_pair(out, b"", shown(&mut buffer, u64::from(*status))),
         Answer::Lines(lines, is_end) => {
             let word: &[u8] = if *is_end { b"end" } else { b"more" };
             put_pair(out, lines.as_slice(), word)

@@ -123,7 +123,7 @@ impl Uploads {
         ensures cut { self.new.cut ≡ self.old.cut }
     {
         match action {
-            Action::OpenPatch(target) => {
+            Action::OpenPatch(target, _) => {
                 self.reset(seat, None, Some(Opening::of_patch(target, request)));
             }
             other => self.reset(seat, Opening::by(other, request), None),
@@ -142,7 +142,7 @@ impl Uploads {
         };
         match answer {
             Answer::Opened(request) => self.begin(seat, action, *request),
-            Answer::Status(_, _) => self.reset(seat, None, None),
+            Answer::Status(_, _, _) => self.reset(seat, None, None),
             Answer::Cancelled => self.reset(seat, None, None),
             _ => {}
         }

@@ -7,7 +7,7 @@ use std::test::Fail;
 /// Each is run in pieces of all these lengths in bytes; 0 is whole.
 const CUTS: [u64; 6] = [0, 1, 2, 3, 7, 18_446_744_073_709_551_615];
 
-const FEEDS: [Row; 21] = [
+const FEEDS: [Row; 23] = [
     (
         "blank nodes of different requests are different",
         "0 open post default\n0 feed nt _:x <http://e/p> _:x .\n0 commit\n0 open post default\n0 feed nt _:x <http://e/p> _:x .\n0 commit\n0 pin default\n0 piece 9\n",
@@ -107,6 +107,16 @@ const FEEDS: [Row; 21] = [
         "a triple after a fault is not staged, nor one before it in the same feed",
         "0 open put default\n0 feed nt <http://e/s> <http://e/p> \"1\" . !\ncounts\n0 commit\n",
         "opened 1\nfed\nnodes 1 triples 0\nfault 400\n",
+    ),
+    (
+        "a late upload is given up with what it was fed, and the next one has a text of its own",
+        "0 open put default\n0 feed nt <http://e/s> <http://e/p> \"1\" .\n0 commit\n0 open put default since 0\n0 feed nt <http://e/s> <http://e/p> \"2\" .\n0 feed nt _:x <http://e/p> \"3\" .\n0 commit\n0 feed nt <http://e/s> <http://e/p> \"4\" .\n0 commit\ncounts\n0 open post default since 1\n0 feed ttl [] <http://e/p> \"5\" .\n0 commit\n0 pin default\n0 piece 9\n",
+        "opened 1\nfed\n204\nopened 2\nfed\nfed\n412 1\nrefused WrongPhase\nrefused WrongPhase\nnodes 5 triples 1\nopened 3\nfed\n204\n200\n<http://e/s> <http://e/p> \"1\" .\n_:b3_1 <http://e/p> \"5\" .\nend\n",
+    ),
+    (
+        "a fault of a text comes before its upload is late",
+        "0 open put default since 0\n0 feed nt <http://e/s> <http://e/p> \"1\" . !\n1 open put default\n1 commit\n0 commit\n0 open put default since 0\n0 feed nt !\n0 cancel\n0 open put default since 0\n0 commit\n",
+        "opened 1\nfed\nopened 2\n204\nfault 400\nopened 3\nfed\ncancelled\nopened 4\n412 1\n",
     ),
     (
         "spaces and a comment around a statement",

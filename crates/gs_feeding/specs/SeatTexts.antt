@@ -20,7 +20,7 @@ use Rattle.gs_feeding.specs.Receiving.{Fed, Unfed, InPart, Faulted, Finished, Is
 
 -- the upload that an action opened, by the number of its request; no other action opened one
 abbrev pub opened_by : Action → ℕ → Option Opening
-opened_by (Open k) r = Some (record { request = r; target = target_name k })
+opened_by (Open k since) r = Some (record { request = r; target = target_name k })
 opened_by action r = None
 
 -- the patch of a target, by the number of its request

@@ -46,7 +46,7 @@ impl Opening {
         ensures { result ≡ opened_by action request }
     {
         match action {
-            Action::Open(kind) => Some(Opening {
+            Action::Open(kind, _) => Some(Opening {
                 request,
                 target: target_of(kind),
             }),

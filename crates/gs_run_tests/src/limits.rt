@@ -9,7 +9,7 @@ use gs_tree_store::{Storage, TreeStore};
 use std::alloc::Global;
 use std::test::Fail;
 
-const ROWS: [Row; 3] = [
+const ROWS: [Row; 4] = [
     (
         "the limits are on the result alone",
         "0 open put <http://e/g>\n0 stage <s> <p> \"1\" . <s> <p> \"2\" . <s> <p> \"3\" . <s> <p> \"4\" . <s> <p> \"5\" . <s> <p> \"6\" .\n0 commit\ncounts\n0 open put <http://e/g>\n0 stage <s> <p> \"7\" . <s> <p> \"8\" . <s> <p> \"9\" . <s> <p> \"10\" . <s> <p> \"11\" . <s> <p> \"12\" .\n0 commit\ncounts\n0 open post <http://e/g>\n0 stage <s> <p> \"12\" . <s> <p> \"7\" .\n0 commit\ncounts\n0 open post <http://e/g>\n0 stage <s> <p> \"13\" .\n0 commit\ncounts\n0 open put default\n0 stage <s> <p> \"1\" .\n0 commit\ncounts\n",
@@ -24,6 +24,11 @@ const ROWS: [Row; 3] = [
         "a patch over the limits ends and changes nothing",
         "0 open put default\n0 stage <s> <p> \"1\" . <s> <p> \"2\" . <s> <p> \"3\" . <s> <p> \"4\" . <s> <p> \"5\" . <s> <p> \"6\" .\n0 commit\ncounts\n0 open patch default\n0 patch: insert <s> <p> \"7\"\ncounts\n1 pin default\n1 piece 99\n0 open patch default\n0 patch: insert <s> <p> \"6\"\n0 open patch <http://e/g>\n0 patch: insert <s> <p> \"6\"\ncounts\n",
         "opened 1\nstaged\n204\ntriples 6\nopened 2\n507\ntriples 6\n200\n<http://e/s> <http://e/p> \"1\" .\n<http://e/s> <http://e/p> \"2\" .\n<http://e/s> <http://e/p> \"3\" .\n<http://e/s> <http://e/p> \"4\" .\n<http://e/s> <http://e/p> \"5\" .\n<http://e/s> <http://e/p> \"6\" .\nend\nopened 3\n204\nopened 4\n404\ntriples 6\n",
+    ),
+    (
+        "a write that comes too late is 412 before it is 507",
+        "0 open put default\n0 stage <s> <p> \"1\" . <s> <p> \"2\" . <s> <p> \"3\" . <s> <p> \"4\" . <s> <p> \"5\" . <s> <p> \"6\" .\n0 commit\ncounts\n1 open post default since 0\n1 stage <s> <p> \"7\" .\n1 commit\n1 open post default since 1\n1 stage <s> <p> \"7\" .\n1 commit\n1 open put <http://e/g> since 0\n1 stage <s> <p> \"7\" .\n1 commit\n1 open patch default since 0\n1 patch: insert <s> <p> \"7\"\n1 open patch default since 1\n1 patch: insert <s> <p> \"7\"\ncounts\n",
+        "opened 1\nstaged\n204\ntriples 6\nopened 2\nstaged\n412 1\nopened 3\nstaged\n507\nopened 4\nstaged\n507\nopened 5\n412 1\nopened 6\n507\ntriples 6\n",
     ),
 ];
 

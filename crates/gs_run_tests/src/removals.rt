@@ -112,10 +112,10 @@ fn add_all(
     removed: &str,
     events: &mut Vec<Event>,
 ) -> Result<(), Refusal> {
-    add(events, Action::Open(UploadKind::Put(Target::Default)))?;
+    add(events, Action::Open(UploadKind::Put(Target::Default), None))?;
     add(events, Action::Stage(triples(alloc, graph)?))?;
     add(events, Action::Commit)?;
-    add(events, Action::OpenPatch(Target::Default))?;
+    add(events, Action::OpenPatch(Target::Default, None))?;
     add(events, Action::CommitPatch(operations(alloc, removed)?))?;
     add(events, Action::Pin(Scope::One(Target::Default)))?;
     add(events, Action::Piece(99))

@@ -3,7 +3,7 @@ use gs_core::{Event, MAX_NAMES, MAX_TRIPLES, Refusal, Store};
 use gs_event::Limits;
 use gs_plain::PlainStore;
 use gs_run::run;
-use gs_schedules::{DATASETS, ROWS, Row};
+use gs_schedules::{CONDITIONS, DATASETS, ROWS, Row};
 use gs_test_events::{answered, events, printed};
 use std::alloc::{AllocError, Global};
 use std::test::Fail;
@@ -29,6 +29,7 @@ fn store(alloc: Global, input: &str) -> Result<Store, Refusal> {
         _ if input.starts_with("store 4 999999999999999999 0") => {
             Store::starting_at(alloc, 4, BASE, 999_999_999_999_999_999, 0)
         }
+        _ if input.starts_with("store 4 5 0") => Store::starting_at(alloc, 4, BASE, 5, 0),
         _ if input.starts_with("store 4 0 999999999999999999") => {
             Store::starting_at(alloc, 4, BASE, 0, 999_999_999_999_999_999)
         }
@@ -146,5 +147,13 @@ fn a_run_over_each_store_reads_all_graphs_as_the_schedule_does(
     rt: HostRuntime,
 ) -> Result<(), Fail> {
     assert_eq!(rt; wrong_row(rt.alloc(), &DATASETS)?, None);
+    Ok(())
+}
+
+#[test]
+fn a_run_over_each_store_writes_on_condition_as_the_schedule_does(
+    rt: HostRuntime,
+) -> Result<(), Fail> {
+    assert_eq!(rt; wrong_row(rt.alloc(), &CONDITIONS)?, None);
     Ok(())
 }

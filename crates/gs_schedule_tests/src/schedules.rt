@@ -1,5 +1,7 @@
 //! Schedules through `drill`, each with what it must print.
-use gs_schedules::{DATASETS, PATCHES, ROWS, Row, Stop, prints, unstopped_line, wrong_row};
+use gs_schedules::{
+    CONDITIONS, DATASETS, PATCHES, ROWS, Row, Stop, prints, unstopped_line, wrong_row,
+};
 use std::alloc::{AllocError, Global};
 use std::test::Fail;
 
@@ -11,6 +13,11 @@ fn worked_schedules_print_what_they_must(rt: HostRuntime) {
 #[test]
 fn worked_reads_of_all_graphs_print_what_they_must(rt: HostRuntime) {
     assert_eq!(rt; wrong_row(rt.alloc(), &DATASETS), None);
+}
+
+#[test]
+fn worked_writes_on_condition_print_what_they_must(rt: HostRuntime) {
+    assert_eq!(rt; wrong_row(rt.alloc(), &CONDITIONS), None);
 }
 
 #[test]
@@ -134,6 +141,36 @@ const NO_COMMANDS: [&str; 57] = [
     "counts all",
 ];
 
+/// The same, where a condition is wrong: on what has none, or with no number of 64 bits.
+const NO_CONDITIONS: [&str; 26] = [
+    "0 open new since 1",
+    "0 open put <http://e/g> since",
+    "0 open put <http://e/g> since ",
+    "0 open put <http://e/g> since 01",
+    "0 open put <http://e/g> since 00",
+    "0 open put <http://e/g> since -1",
+    "0 open put <http://e/g> since +1",
+    "0 open put <http://e/g> since 1 ",
+    "0 open put <http://e/g> since 1 since 1",
+    "0 open put <http://e/g>  since 1",
+    "0 open put <http://e/g> since  1",
+    "0 open put <http://e/g> Since 1",
+    "0 open put <http://e/g> 1",
+    "0 open put <http://e/g>since 1",
+    "0 open put since 1",
+    "0 open post default since",
+    "0 open post default since 18446744073709551616",
+    "0 open patch default since x",
+    "0 open patch since 1",
+    "0 delete <http://e/g> since 100000000000000000000",
+    "0 delete all since 1",
+    "0 head <http://e/g> since 1",
+    "0 head all since 1",
+    "0 pin default since 1",
+    "0 pin all since 1",
+    "0 commit since 1",
+];
+
 /// Where they stand.
 const THIRD: Stop = Stop {
     front: "# three lines\n0 pin default\n",
@@ -145,6 +182,12 @@ const THIRD: Stop = Stop {
 #[test]
 fn a_line_that_is_no_command_ends_the_run(rt: HostRuntime) -> Result<(), Fail> {
     assert_eq!(rt; unstopped_line(rt.alloc(), &NO_COMMANDS, &THIRD)?, None);
+    Ok(())
+}
+
+#[test]
+fn a_condition_that_is_wrong_ends_the_run(rt: HostRuntime) -> Result<(), Fail> {
+    assert_eq!(rt; unstopped_line(rt.alloc(), &NO_CONDITIONS, &THIRD)?, None);
     Ok(())
 }
 

@@ -1,7 +1,7 @@
 //! Schedules of patches, worked by hand.
 use crate::rows::Row;
 
-pub const PATCHES: [Row; 26] = [
+pub const PATCHES: [Row; 32] = [
     (
         "an operation takes effect on what the ones before it left",
         "0 open patch default\n0 patch INSERT DATA { _:x <http://e/p> 1 } ; DELETE WHERE { ?s <http://e/p> 1 } ; INSERT DATA { <http://e/a> a 01 }\n0 pin default\n0 piece 9\n",
@@ -135,5 +135,36 @@ pub const PATCHES: [Row; 26] = [
         "a patch that takes the last triple of the default graph leaves its record unused",
         "0 open put default\n0 stage <http://e/s> <http://e/p> \"1\" .\n0 commit\n0 open patch default\n0 patch DELETE DATA { <http://e/s> <http://e/p> \"1\" }\ncounts\nreclaim 9\ncounts\n",
         "opened 1\nstaged\n204\nopened 2\n204\nnodes 3 triples 0\nreclaimed 3 done\nnodes 0 triples 0\n",
+    ),
+    // A condition is tested after it is seen that the graph is there, and before all else.
+    (
+        "a patch that changes nothing is a write all the same",
+        "0 open put <http://e/g>\n0 stage <http://e/s> <http://e/p> \"1\" .\n0 commit\n0 open patch <http://e/g> since 1\n0 patch\n0 open patch <http://e/g> since 1\n0 patch INSERT DATA { <http://e/s> <http://e/p> \"2\" }\n0 open patch <http://e/g> since 2\n0 patch INSERT DATA { <http://e/s> <http://e/p> \"1\" } ; DELETE DATA { <http://e/s> <http://e/p> \"3\" }\n0 delete <http://e/g> since 2\n0 pin <http://e/g>\n0 piece 9\n0 delete <http://e/g> since 3\n",
+        "opened 1\nstaged\n201\nopened 2\n204\nopened 3\n412 2\nopened 4\n204\n412 3\n200\n<http://e/s> <http://e/p> \"1\" .\nend\n204\n",
+    ),
+    (
+        "a patch of a missing graph is missing before it is late, and a late one is given up",
+        "0 open put <http://e/g>\n0 commit\n0 open patch <http://e/g> since 0\n1 delete <http://e/g>\n0 patch\n0 patch\n0 open patch <http://e/g> since 0\n0 patch\n0 open put <http://e/g>\n0 commit\n0 open patch <http://e/g> since 2\n0 patch\n0 patch\n0 cancel\n0 open patch <http://e/g> since 3\n0 patch INSERT DATA { <http://e/s> <http://e/p> \"1\" }\n",
+        "opened 1\n201\nopened 2\n204\n404\nrefused WrongPhase\nopened 3\n404\nopened 4\n201\nopened 5\n412 3\nrefused WrongPhase\nrefused WrongPhase\nopened 6\n204\n",
+    ),
+    (
+        "a text with a fault is one, whatever the condition of its patch",
+        "0 open put <http://e/g>\n0 commit\n0 open patch <http://e/g> since 0\n0 patch INSERT DATA { <s> }\n0 open patch <http://e/g> since 0\n0 patch CLEAR ALL\n0 open patch <http://e/g> since 0\n0 cancel\n0 open patch <http://e/g>\n0 patch INSERT DATA { <a> <b> \"1\" }\n0 open patch <http://e/g> since 1\n0 patch DELETE WHERE { ?s <b> ?o }\n0 pin <http://e/g>\n0 piece 9\n",
+        "opened 1\n201\nopened 2\nfault 400\nopened 3\nfault 422\nopened 4\ncancelled\nopened 5\n204\nopened 6\n412 2\n200\n<http://e/a> <http://e/b> \"1\" .\nend\n",
+    ),
+    (
+        "a patch of the default graph is late after a post of nothing, and a put after a patch",
+        "0 open patch default since 0\n1 open post default since 0\n1 commit\n0 patch INSERT DATA { <http://e/s> <http://e/p> \"1\" }\n0 open patch default since 1\n1 open put default since 1\n0 patch INSERT DATA { <http://e/s> <http://e/p> \"1\" }\n1 commit\n0 pin default\n0 piece 9\n",
+        "opened 1\nopened 2\n204\n412 1\nopened 3\nopened 4\n204\n412 2\n200\n<http://e/s> <http://e/p> \"1\" .\nend\n",
+    ),
+    (
+        "a late patch leaves its record",
+        "0 open put <http://e/g>\n0 stage <http://e/s> <http://e/p> \"1\" .\n0 commit\n0 open patch <http://e/g> since 0\ncounts\n0 patch INSERT DATA { <http://e/s> <http://e/p> \"2\" }\ncounts\nreclaim 9\ncounts\n",
+        "opened 1\nstaged\n201\nopened 2\nnodes 3 triples 1\n412 1\nnodes 3 triples 1\nreclaimed 1 done\nnodes 2 triples 1\n",
+    ),
+    (
+        "a late patch is late after the last commit too",
+        "store 4 999999999999999999 0\n0 open patch default since 0\n0 patch\n0 open patch default since 999999999999999999\n0 patch\n0 cancel\n0 open patch <http://e/g> since 0\n0 patch\n",
+        "opened 1\n412 999999999999999999\nopened 2\nrefused LastNumber\ncancelled\nopened 3\n404\n",
     ),
 ];

@@ -1,6 +1,7 @@
 use Rattle.std.proofs.Common.{false}
 use Rattle.gs_drill.specs.Standing.{Standing, run_state}
-use Rattle.gs_drill.proofs.PlayLemmas.{Playing-none, Playing-more, Playing-ends, Playing-all, Halts-none, filled, emptied, shorter}
+use Rattle.gs_drill.proofs.PlayLemmas.{Playing-none, Playing-more, Playing-ends, Playing-all, Halts-none, shorter}
+use Rattle.gs_commands.proofs.WordLemmas.{filled, emptied}
 use Rattle.gs_drill.proofs.drills.play.Goals as goal
 
 pub returns-in-Err : goal.returns-in-Err

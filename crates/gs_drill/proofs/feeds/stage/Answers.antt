@@ -1,6 +1,6 @@
 use Rattle.std.proofs.Common.{ℕ, ◌==◌, ap, ◌∙◌}
 use Rattle.gs_drill.specs.Standing.{desk_of}
-use Rattle.gs_drill.proofs.PlayLemmas.{filled, emptied}
+use Rattle.gs_commands.proofs.WordLemmas.{filled, emptied}
 use Rattle.gs_drill.proofs.FeedLemmas.{stages_none, stages_some}
 use Rattle.gs_drill.proofs.feeds.stage.Goals as goal
 
