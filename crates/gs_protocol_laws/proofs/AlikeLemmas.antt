@@ -14,8 +14,8 @@ use Rattle.gs_event.proofs.HistoryLemmas.{later}
 -- a phase without what is left of a read
 abbrev pub outline : Phase OpenRead → Phase (Unit {0})
 outline Idle = Idle
-outline (Writing k r g) = Writing k r g
-outline (Patching t r) = Patching t r
+outline (Writing k r g since) = Writing k r g since
+outline (Patching t r since) = Patching t r since
 outline (Reading left) = Reading tt
 
 -- two phases differ at most in what is left of a read
@@ -35,24 +35,24 @@ given_outline true x = refl
 given_outline false x = refl
 
 outline_later : (h : History) (p : Phase OpenRead) (action : Action) (a : Answer) → outline (later h p action a) ≡ next (outline p) action a
-outline_later h Idle (Open k) (Opened r) = refl
-outline_later h Idle (OpenPatch t) (Opened r) = refl
-outline_later h Idle (Pin c) (Pinned s) = pinned_outline (nat_eq s 200) (record { scope = c; before = h; given = 0 })
-outline_later h (Writing t r g) (Stage ts) Staged = refl
-outline_later h (Writing t r g) Commit (Status s name) = refl
-outline_later h (Writing t r g) Cancel Cancelled = refl
-outline_later h (Patching t r) (CommitPatch ops) (Status s name) = refl
-outline_later h (Patching t r) Cancel Cancelled = refl
+outline_later h Idle (Open k condition) (Opened r) = refl
+outline_later h Idle (OpenPatch t condition) (Opened r) = refl
+outline_later h Idle (Pin c) (Pinned s number) = pinned_outline (nat_eq s 200) (record { scope = c; before = h; given = 0 })
+outline_later h (Writing t r g since) (Stage ts) Staged = refl
+outline_later h (Writing t r g since) Commit (Status s name number) = refl
+outline_later h (Writing t r g since) Cancel Cancelled = refl
+outline_later h (Patching t r since) (CommitPatch ops) (Status s name number) = refl
+outline_later h (Patching t r since) Cancel Cancelled = refl
 outline_later h (Reading x) (Piece n) (Lines b end) = given_outline end _
 outline_later h (Reading x) Cancel Cancelled = refl
 outline_later h p action a = refl
 
 outline_asks : (p : Phase OpenRead) (action : Action) (a : Answer) → operation_of (outline p) action a ≡ operation_of p action a
-outline_asks Idle (Delete t) (Status s name) = refl
-outline_asks Idle (Head c) (Status s name) = refl
-outline_asks Idle (Pin c) (Pinned s) = refl
-outline_asks (Writing t r g) Commit (Status s name) = refl
-outline_asks (Patching t r) (CommitPatch ops) (Status s name) = refl
+outline_asks Idle (Delete t condition) (Status s name number) = refl
+outline_asks Idle (Head c) (Status s name number) = refl
+outline_asks Idle (Pin c) (Pinned s number) = refl
+outline_asks (Writing t r g since) Commit (Status s name number) = refl
+outline_asks (Patching t r since) (CommitPatch ops) (Status s name number) = refl
 outline_asks p action a = refl
 
 -- They ask the same,

@@ -9,9 +9,10 @@ use Rattle.gs_term.specs.declared.names.Target.TheVariants.{Default, Named}
 use Rattle.gs_event.specs.declared.events.Scope.TheVariants.{All}
 use Rattle.gs_event.specs.Datasets.{Dataset, graph_at, named_lines, quads_of}
 use Rattle.gs_event.specs.Operations.{Puts}
-use Rattle.gs_event.specs.Histories.{History, Start, IsLegal, dataset_after}
+use Rattle.gs_event.specs.Conditions.{asked_since}
+use Rattle.gs_event.specs.Histories.{History, Start, IsLegal, dataset_after, state_after}
 use Rattle.gs_protocol_laws.specs.AllGraphs.{AllGetsGiveTheDataset, AllHeadsAreOk, AllPinsAreOk, WriteNothing, AllGetsAgree, HasLinesOf, AllGetsHaveEachGraph, PutsAreInAllGets}
-use Rattle.gs_protocol_laws.proofs.WriteLemmas.{put_own}
+use Rattle.gs_protocol_laws.proofs.WriteLemmas.{took_by, put_own}
 use Rattle.gs_protocol_laws.proofs.FitLemmas.{legal_before, took_effect, head_status, pin_status}
 use Rattle.gs_protocol_laws.proofs.ReadLemmas.{gets_give}
 use Rattle.gs_protocol_laws.proofs.ReadBackLemmas.{left_after, pinned_legal}
@@ -22,14 +23,14 @@ pub all_gets_give : AllGetsGiveTheDataset
 all_gets_give start before whole seat bytes legal g = gets_give start before whole seat All bytes legal g
 
 pub all_heads : AllHeadsAreOk
-all_heads start h seat s name legal = head_status start h seat All s name legal
+all_heads start h seat s number name legal = head_status start h seat All s name number legal
 
 pub all_pins : AllPinsAreOk
-all_pins start h seat s legal = pin_status start h seat All s legal
+all_pins start h seat s number legal = pin_status start h seat All s number legal
 
 -- the dataset stays where nothing is written
 unwritten_stays : (start : Start) (before later : History) → IsLegal start (later ++ before) → WriteNothing later
-    → dataset_after start.setting (later ++ before) ≡ dataset_after start.setting before
+    → dataset_after start (later ++ before) ≡ dataset_after start before
 unwritten_stays start before [] legal n = refl
 unwritten_stays start before (x ∷ later) legal n = only_writes start (later ++ before) x legal n.1 ∙ unwritten_stays start before later legal.0 n.0
 
@@ -57,12 +58,12 @@ has_lines m (Named n) g bytes is there =
 
 pub all_gets_have : AllGetsHaveEachGraph
 all_gets_have start before whole seat t g bytes legal get is =
-    has_lines (dataset_after start.setting before) t g bytes (all_gets_give start before whole seat bytes legal get) is
+    has_lines (dataset_after start before) t g bytes (all_gets_give start before whole seat bytes legal get) is
 
 pub puts_in_all : PutsAreInAllGets
 puts_in_all start before later whole x t g seat bytes legal write spared get =
     let all : IsLegal start (later ++ x ∷ before) = pinned_legal start (later ++ x ∷ before) whole seat All bytes legal get in
     let sound : IsLegal start (x ∷ before) = legal_before start (x ∷ before) later all in
-    let effect = took_effect start before x (Puts t g) sound write.asks write.success in
-    let stays = left_after start before x (Puts t g) t (Some g) later all write spared (put_own start.setting (dataset_after start.setting before) t g effect) in
+    let effect = (took_by start.setting (state_after start before) (asked_since write.condition (Puts t g)) (took_effect start before x (asked_since write.condition (Puts t g)) sound write.asks write.success)).status in
+    let stays = left_after start before x (Puts t g) t (Some g) later all write spared (put_own start.setting (dataset_after start before) t g effect) in
     all_gets_have start (later ++ x ∷ before) whole seat t g bytes legal get stays

@@ -9,7 +9,6 @@ use Rattle.gs_event.specs.declared.events.Event.{Event}
 use Rattle.gs_event.specs.declared.events.Event.TheVariants.{Seat as At, Reclaim}
 use Rattle.gs_event.specs.declared.answers.Answer.{Answer}
 use Rattle.gs_event.specs.declared.answers.Answer.TheVariants.{Opened, Staged, Status, Cancelled, Refused}
-use Rattle.gs_event.specs.Operations.{Setting}
 use Rattle.gs_event.specs.Phases.{Phase, Idle, Writing, Patching, Reading, operation_of}
 use Rattle.gs_event.specs.Views.{Totals, FitsSeat}
 use Rattle.gs_event.specs.Histories.{History, OpenRead, Start, IsLegal, phase_of, operation_by, points_of, seat_view, view_of}
@@ -21,36 +20,36 @@ use Rattle.gs_protocol_laws.proofs.AlikeLemmas.{outline, AreAlike, asks_alike, p
 -- an upload or a patch is open
 abbrev IsOpen : Phase OpenRead → Type 0
 IsOpen Idle = ⊥
-IsOpen (Writing k r g) = Unit {0}
-IsOpen (Patching t r) = Unit {0}
+IsOpen (Writing k r g since) = Unit {0}
+IsOpen (Patching t r since) = Unit {0}
 IsOpen (Reading left) = ⊥
 
 -- it stays open
 stays_open : (h : History) (p : Phase OpenRead) (action : Action) (a : Answer) → IsOpen p → ends_upload action a ≡ false → IsOpen (later h p action a)
 stays_open h Idle action a o e = absurd o
 stays_open h (Reading left) action a o e = absurd o
-stays_open h (Writing k r g) (Stage ts) Staged o e = tt
-stays_open h (Writing k r g) Commit (Status s name) o e = absurd (cc)
-stays_open h (Writing k r g) Cancel Cancelled o e = absurd (cc)
-stays_open h (Writing k r g) action a o e = tt
-stays_open h (Patching t r) (CommitPatch ops) (Status s name) o e = absurd (cc)
-stays_open h (Patching t r) Cancel Cancelled o e = absurd (cc)
-stays_open h (Patching t r) action a o e = tt
+stays_open h (Writing k r g since) (Stage ts) Staged o e = tt
+stays_open h (Writing k r g since) Commit (Status s name number) o e = absurd (cc)
+stays_open h (Writing k r g since) Cancel Cancelled o e = absurd (cc)
+stays_open h (Writing k r g since) action a o e = tt
+stays_open h (Patching t r since) (CommitPatch ops) (Status s name number) o e = absurd (cc)
+stays_open h (Patching t r since) Cancel Cancelled o e = absurd (cc)
+stays_open h (Patching t r since) action a o e = tt
 
 -- and nothing is asked
 asks_nothing : (p : Phase OpenRead) (action : Action) (a : Answer) → IsOpen p → ends_upload action a ≡ false → operation_of p action a ≡ None
 asks_nothing Idle action a o e = absurd o
 asks_nothing (Reading left) action a o e = absurd o
-asks_nothing (Writing k r g) Commit (Status s name) o e = absurd (cc)
-asks_nothing (Writing k r g) action a o e = refl
-asks_nothing (Patching t r) (CommitPatch ops) (Status s name) o e = absurd (cc)
-asks_nothing (Patching t r) action a o e = refl
+asks_nothing (Writing k r g since) Commit (Status s name number) o e = absurd (cc)
+asks_nothing (Writing k r g since) action a o e = refl
+asks_nothing (Patching t r since) (CommitPatch ops) (Status s name number) o e = absurd (cc)
+asks_nothing (Patching t r since) action a o e = refl
 
 -- neither is by giving it up
 cancel_asks : (p : Phase OpenRead) → operation_of p Cancel Cancelled ≡ None
 cancel_asks Idle = refl
-cancel_asks (Writing k r g) = refl
-cancel_asks (Patching t r) = refl
+cancel_asks (Writing k r g since) = refl
+cancel_asks (Patching t r since) = refl
 cancel_asks (Reading left) = refl
 
 -- nor by opening it: the seat was idle, and then it is open
@@ -59,26 +58,26 @@ record Opens (h : History) (p : Phase OpenRead) (action : Action) (r : ℕ) : Ty
   pub opened : IsOpen (later h p action (Opened r))
   pub nothing : operation_of p action (Opened r) ≡ None
 
-opened_so : (v : Totals) (w : Setting) (h : History) (p : Phase OpenRead) (action : Action) (r : ℕ) → FitsSeat v (seat_view w p) action (Opened r) → Opens h p action r
-opened_so v w h Idle (Open k) r f = record { idle = refl; opened = tt; nothing = refl }
-opened_so v w h Idle (OpenPatch t) r f = record { idle = refl; opened = tt; nothing = refl }
-opened_so v w h Idle (Delete t) r f = absurd f
+opened_so : (v : Totals) (w : Start) (h : History) (p : Phase OpenRead) (action : Action) (r : ℕ) → FitsSeat v (seat_view w p) action (Opened r) → Opens h p action r
+opened_so v w h Idle (Open k condition) r f = record { idle = refl; opened = tt; nothing = refl }
+opened_so v w h Idle (OpenPatch t condition) r f = record { idle = refl; opened = tt; nothing = refl }
+opened_so v w h Idle (Delete t condition) r f = absurd f
 opened_so v w h Idle (Head c) r f = absurd f
 opened_so v w h Idle (Pin c) r f = absurd f
-opened_so v w h (Writing k n g) (Stage ts) r f = absurd f
-opened_so v w h (Writing k n g) Commit r f = absurd f
-opened_so v w h (Writing k n g) Cancel r f = absurd f
-opened_so v w h (Patching t n) (CommitPatch ops) r f = absurd f
-opened_so v w h (Patching t n) Cancel r f = absurd f
+opened_so v w h (Writing k n g since) (Stage ts) r f = absurd f
+opened_so v w h (Writing k n g since) Commit r f = absurd f
+opened_so v w h (Writing k n g since) Cancel r f = absurd f
+opened_so v w h (Patching t n since) (CommitPatch ops) r f = absurd f
+opened_so v w h (Patching t n since) Cancel r f = absurd f
 opened_so v w h (Reading left) (Piece n) r f = absurd f
 opened_so v w h (Reading left) Cancel r f = absurd f
 opened_so v w h p action r f = absurd f
 
 seat_opens : (start : Start) (h : History) (seat : ℕ) (action : Action) (r : ℕ) → IsLegal start ((At seat action, Opened r) ∷ h) → Opens h (phase_of h seat) action r
 seat_opens start h seat action r legal = go (fits_phase start h seat action (Opened r) legal.1) where
-  go : (Opened r ≡ Refused BadSeat) ⊎ FitsSeat (view_of start h).totals (seat_view start.setting (phase_of h seat)) action (Opened r) → Opens h (phase_of h seat) action r
+  go : (Opened r ≡ Refused BadSeat) ⊎ FitsSeat (view_of start h).totals (seat_view start (phase_of h seat)) action (Opened r) → Opens h (phase_of h seat) action r
   go (inl e) = absurd (cc)
-  go (inr k) = opened_so (view_of start h).totals start.setting h (phase_of h seat) action r k
+  go (inr k) = opened_so (view_of start h).totals start h (phase_of h seat) action r k
 
 not_same : (m n : ℕ) → nat_eq m n ≡ false → m ≢ n
 not_same m n e same = let clash : true ≡ false = sym (eq-eqb m n same) ∙ e in absurd (cc)
@@ -152,8 +151,8 @@ open_leaves_nothing start before since seat request action legal l = (since_open
 -- given up, the seat is idle
 cancelled : (h : History) (p : Phase OpenRead) → IsOpen p → later h p Cancel Cancelled ≡ Idle
 cancelled h Idle o = absurd o
-cancelled h (Writing k r g) o = refl
-cancelled h (Patching t r) o = refl
+cancelled h (Writing k r g since) o = refl
+cancelled h (Patching t r since) o = refl
 cancelled h (Reading left) o = absurd o
 
 -- as it was before it was opened, and as it is without its events

@@ -11,3 +11,6 @@ pub mod UploadLemmas
 pub mod PatchLemmas
 pub mod StatusLemmas
 pub mod LineLemmas
+pub mod NumberLemmas
+pub mod RaisedLemmas
+pub mod LateLemmas

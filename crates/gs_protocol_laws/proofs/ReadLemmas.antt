@@ -55,12 +55,12 @@ goes_on : (v : Totals) (c : Scope) (before h : History) (lines : List (List ℕ)
 goes_on v c before h lines k action (Refused r) f e = refused_goes c before h lines k action r
 goes_on v c before h lines k (Piece n) (Lines b end) f e = record { phase = ap (λ e. cond e Idle (read_of c before (k + n))) e; bytes = f.1 }
 goes_on v c before h lines k Cancel Cancelled f e = absurd (cc)
-goes_on v c before h lines k (Open u) a f e = absurd f
-goes_on v c before h lines k (OpenPatch u) a f e = absurd f
+goes_on v c before h lines k (Open u condition) a f e = absurd f
+goes_on v c before h lines k (OpenPatch u condition) a f e = absurd f
 goes_on v c before h lines k (Stage ts) a f e = absurd f
 goes_on v c before h lines k Commit a f e = absurd f
 goes_on v c before h lines k (CommitPatch ops) a f e = absurd f
-goes_on v c before h lines k (Delete u) a f e = absurd f
+goes_on v c before h lines k (Delete u condition) a f e = absurd f
 goes_on v c before h lines k (Head u) a f e = absurd f
 goes_on v c before h lines k (Pin u) a f e = absurd f
 goes_on v c before h lines k (Piece n) a f e = absurd f
@@ -78,15 +78,15 @@ spans lines k n = sym (ap concat (take-add k n lines) ∙ concat-append (take k 
 -- one more event of the seat
 own_stands : (start : Start) (c : Scope) (before h : History) (seat : ℕ) (bytes : List ℕ) (k : ℕ) (action : Action) (a : Answer)
     → Fits (view_of start h) (At seat action) a → ends_read action a ≡ false
-    → Stands c before h (lines_in (dataset_after start.setting before) c) seat bytes k
-    → Goes c before h (lines_in (dataset_after start.setting before) c) k action a
+    → Stands c before h (lines_in (dataset_after start before) c) seat bytes k
+    → Goes c before h (lines_in (dataset_after start before) c) k action a
 own_stands start c before h seat bytes k action a f e s = go (fits_phase start h seat action a f) where
-  go : (a ≡ Refused BadSeat) ⊎ FitsSeat (view_of start h).totals (seat_view start.setting (phase_of h seat)) action a
-      → Goes c before h (lines_in (dataset_after start.setting before) c) k action a
-  go (inl is) = subst (λ b. Goes c before h (lines_in (dataset_after start.setting before) c) k action b) (sym is)
-      (refused_goes c before h (lines_in (dataset_after start.setting before) c) k action BadSeat)
-  go (inr fits) = goes_on (view_of start h).totals c before h (lines_in (dataset_after start.setting before) c) k action a
-      (subst (λ p. FitsSeat (view_of start h).totals (seat_view start.setting p) action a) s.phase fits) e
+  go : (a ≡ Refused BadSeat) ⊎ FitsSeat (view_of start h).totals (seat_view start (phase_of h seat)) action a
+      → Goes c before h (lines_in (dataset_after start before) c) k action a
+  go (inl is) = subst (λ b. Goes c before h (lines_in (dataset_after start before) c) k action b) (sym is)
+      (refused_goes c before h (lines_in (dataset_after start before) c) k action BadSeat)
+  go (inr fits) = goes_on (view_of start h).totals c before h (lines_in (dataset_after start before) c) k action a
+      (subst (λ p. FitsSeat (view_of start h).totals (seat_view start p) action a) s.phase fits) e
 
 -- one more event that is none of the seat's
 none_more : (c : Scope) (before h : History) (lines : List (List ℕ)) (seat : ℕ) (bytes : List ℕ) (k : ℕ) → Stands c before h lines seat bytes k
@@ -98,14 +98,14 @@ none_more c before h lines seat bytes k s = record {
 
 -- one more event
 more_stands : (start : Start) (c : Scope) (before h : History) (seat : ℕ) (bytes : List ℕ) (k : ℕ) (e : Event) (a : Answer) → Fits (view_of start h) e a → LeavesRead seat e a
-    → Stands c before h (lines_in (dataset_after start.setting before) c) seat bytes k
-    → Stands c before ((e, a) ∷ h) (lines_in (dataset_after start.setting before) c) seat (bytes ++ event_bytes seat e a) (k + event_lines seat e a)
+    → Stands c before h (lines_in (dataset_after start before) c) seat bytes k
+    → Stands c before ((e, a) ∷ h) (lines_in (dataset_after start before) c) seat (bytes ++ event_bytes seat e a) (k + event_lines seat e a)
 more_stands start c before h seat bytes k (Reclaim n) a f l s =
-    let same = none_more c before h (lines_in (dataset_after start.setting before) c) seat bytes k s in
+    let same = none_more c before h (lines_in (dataset_after start before) c) seat bytes k s in
     record { phase = same.phase; given = same.given }
 more_stands start c before h seat bytes k (At d action) a f l s = go (nat_eq d seat) refl where
   lines : List (List ℕ)
-  lines = lines_in (dataset_after start.setting before) c
+  lines = lines_in (dataset_after start before) c
 
   go : (b : Bool) → nat_eq d seat ≡ b
       → Stands c before ((At d action, a) ∷ h) lines seat (bytes ++ event_bytes seat (At d action) a) (k + event_lines seat (At d action) a)
@@ -135,16 +135,16 @@ more_stands start c before h seat bytes k (At d action) a f l s = go (nat_eq d s
       }
 
 -- it stands so since the pin
-since_stands : (start : Start) (c : Scope) (before : History) (seat : ℕ) (since : History) → IsLegal start (since ++ (At seat (Pin c), Pinned 200) ∷ before) → LeaveRead seat since
-    → Stands c before (since ++ (At seat (Pin c), Pinned 200) ∷ before) (lines_in (dataset_after start.setting before) c) seat (bytes_to seat since) (lines_to seat since)
-since_stands start c before seat [] legal l = record {
-  phase = ap (λ b. cond b (later before (phase_of before seat) (Pin c) (Pinned 200)) (phase_of before seat)) (eq-eqb seat seat refl)
-      ∙ ap (λ p. later before p (Pin c) (Pinned 200)) (pin_idle start before seat c 200 legal);
+since_stands : (start : Start) (c : Scope) (before : History) (seat number : ℕ) (since : History) → IsLegal start (since ++ (At seat (Pin c), Pinned 200 number) ∷ before) → LeaveRead seat since
+    → Stands c before (since ++ (At seat (Pin c), Pinned 200 number) ∷ before) (lines_in (dataset_after start before) c) seat (bytes_to seat since) (lines_to seat since)
+since_stands start c before seat number [] legal l = record {
+  phase = ap (λ b. cond b (later before (phase_of before seat) (Pin c) (Pinned 200 number)) (phase_of before seat)) (eq-eqb seat seat refl)
+      ∙ ap (λ p. later before p (Pin c) (Pinned 200 number)) (pin_idle start before seat c 200 number legal);
   given = refl;
 }
-since_stands start c before seat (x ∷ since) legal l =
-    more_stands start c before (since ++ (At seat (Pin c), Pinned 200) ∷ before) seat (bytes_to seat since) (lines_to seat since) x.0 x.1 legal.1 l.1
-    (since_stands start c before seat since legal.0 l.0)
+since_stands start c before seat number (x ∷ since) legal l =
+    more_stands start c before (since ++ (At seat (Pin c), Pinned 200 number) ∷ before) seat (bytes_to seat since) (lines_to seat since) x.0 x.1 legal.1 l.1
+    (since_stands start c before seat number since legal.0 l.0)
 
 -- the last piece has the rest
 last_piece : (v : Totals) (lines : List (List ℕ)) (k n : ℕ) (b : Vec ℕ Global) → FitsSeat v (Reading (drop k lines)) (Piece n) (Lines b true) → concat (take k lines) ++ b.items ≡ concat lines
@@ -153,30 +153,30 @@ last_piece v lines k n b f =
     ∙ sym (concat-append (take k lines) (drop k lines))
     ∙ ap concat (take-append-drop k lines)
 
-whole_lines : (start : Start) (c : Scope) (before : History) (seat : ℕ) (since : History) (n : ℕ) (b : Vec ℕ Global)
-    → IsLegal start ((At seat (Piece n), Lines b true) ∷ (since ++ (At seat (Pin c), Pinned 200) ∷ before)) → LeaveRead seat since
-    → bytes_to seat ((At seat (Piece n), Lines b true) ∷ since) ≡ concat (lines_in (dataset_after start.setting before) c)
-whole_lines start c before seat since n b legal l = go (fits_phase start h seat (Piece n) (Lines b true) legal.1) where
+whole_lines : (start : Start) (c : Scope) (before : History) (seat number : ℕ) (since : History) (n : ℕ) (b : Vec ℕ Global)
+    → IsLegal start ((At seat (Piece n), Lines b true) ∷ (since ++ (At seat (Pin c), Pinned 200 number) ∷ before)) → LeaveRead seat since
+    → bytes_to seat ((At seat (Piece n), Lines b true) ∷ since) ≡ concat (lines_in (dataset_after start before) c)
+whole_lines start c before seat number since n b legal l = go (fits_phase start h seat (Piece n) (Lines b true) legal.1) where
   h : History
-  h = since ++ (At seat (Pin c), Pinned 200) ∷ before
+  h = since ++ (At seat (Pin c), Pinned 200 number) ∷ before
 
   lines : List (List ℕ)
-  lines = lines_in (dataset_after start.setting before) c
+  lines = lines_in (dataset_after start before) c
 
   s : Stands c before h lines seat (bytes_to seat since) (lines_to seat since)
-  s = since_stands start c before seat since legal.0 l
+  s = since_stands start c before seat number since legal.0 l
 
-  go : (Lines b true ≡ Refused BadSeat) ⊎ FitsSeat (view_of start h).totals (seat_view start.setting (phase_of h seat)) (Piece n) (Lines b true)
+  go : (Lines b true ≡ Refused BadSeat) ⊎ FitsSeat (view_of start h).totals (seat_view start (phase_of h seat)) (Piece n) (Lines b true)
       → bytes_to seat since ++ event_bytes seat (At seat (Piece n)) (Lines b true) ≡ concat lines
   go (inl k) = absurd (cc)
   go (inr k) =
       ap (λ e. bytes_to seat since ++ cond e b.items []) (eq-eqb seat seat refl)
       ∙ ap (λ xs. xs ++ b.items) s.given
-      ∙ last_piece (view_of start h).totals lines (lines_to seat since) n b (subst (λ p. FitsSeat (view_of start h).totals (seat_view start.setting p) (Piece n) (Lines b true)) s.phase k)
+      ∙ last_piece (view_of start h).totals lines (lines_to seat since) n b (subst (λ p. FitsSeat (view_of start h).totals (seat_view start p) (Piece n) (Lines b true)) s.phase k)
 
 pub gets_give : GetsGiveTheirLines
 gets_give start before whole seat c bytes legal g =
-    g.given ∙ whole_lines start c before seat g.since g.count g.piece (subst (IsLegal start) g.events legal) g.goes_on
+    g.given ∙ whole_lines start c before seat g.number g.since g.count g.piece (subst (IsLegal start) g.events legal) g.goes_on
 
 pub cut_gets_give : CutGetsGiveTheFirst
-cut_gets_give start before since seat c legal l = (since_stands start c before seat since legal l).given
+cut_gets_give start before since seat number c legal l = (since_stands start c before seat number since legal l).given

@@ -1,5 +1,5 @@
 -- What each operation leaves at its own target, and at another.
-use Rattle.std.proofs.Common.{◌≡◌, ◌≢◌, ℕ, true, false, cond, List, [], ◌∷◌, ◌++◌, Option, Some, None, is_some, refl, sym, ap, ◌∙◌, subst}
+use Rattle.std.proofs.Common.{◌≡◌, ◌≢◌, ℕ, ◌+◌, Bool, true, false, cond, List, [], ◌∷◌, ◌++◌, Option, Some, None, is_some, refl, sym, ap, ◌∙◌, subst, add-zero}
 use Rattle.std.specs.Ordering.{is_eq, eq_by_cmp}
 use Rattle.std.specs.Cmp.{Equal-is, tied_itself}
 use Rattle.std.specs.FinMap as fin
@@ -15,9 +15,11 @@ use Rattle.gs_event.specs.declared.updates.Op.{Op}
 use Rattle.gs_event.specs.Updates.{patched}
 use Rattle.gs_event.specs.Datasets.{Dataset, graph_at, is_there, with_graph, without_graph, lines_if}
 use Rattle.gs_event.specs.Names.{new_name}
-use Rattle.gs_event.specs.Operations.{Setting, Operation, Puts, Posts, Creates, Patches, Deletes, Looks, Reads, is_within, united, stored, stored_status, after, after_all, status_of, location_of, is_success}
+use Rattle.gs_event.specs.Operations.{Setting, Operation, Puts, Posts, Creates, Patches, Deletes, Looks, Reads, is_within, united, stored, stored_status, after, status_of, location_of, is_success}
+use Rattle.gs_event.specs.Conditions.{State, Asked, asked_since, is_late, status_if, last_writes_after, done_by, after_if, after_all_if}
+use Rattle.gs_event.specs.Verdicts.{operation_target}
 use Rattle.gs_event.proofs.VerdictLemmas.{made_well}
-use Rattle.gs_protocol_laws.specs.Writes.{TakesEffect, SpareTarget, HasGraph, status_without, PutsLeave, PostsLeave, CreatesLeave, PatchesLeave, DeletesLeave, OthersLeaveAll}
+use Rattle.gs_protocol_laws.specs.Writes.{TakesEffect, SpareTarget, dataset_by, HasGraph, status_without, PutsLeave, PostsLeave, CreatesLeave, PatchesLeave, DeletesLeave, OthersLeaveAll}
 
 -- the graph that is stored is there
 with_own : (m : Dataset) (t : Target) (g : Graph) → graph_at (with_graph m t g) t ≡ Some g
@@ -72,23 +74,53 @@ stored_own w m t g e =
       | false ↦ λ k. absurd (cc)
     ] e
 
+-- without a condition, the operation took effect at the target
+abbrev pub TakesPlainly : Setting → Dataset → Operation → Target → Type 0
+TakesPlainly w m q t = (is_success (status_of w m q) ≡ true) × (operation_target w m q ≡ Some t)
+
 -- An operation that does not take effect at a target leaves its graph.
-pub after_other : (w : Setting) (m : Dataset) (q : Operation) (t : Target) → (TakesEffect w m q t → ⊥) → graph_at (after w m q) t ≡ graph_at m t
-after_other w m (Puts u g) t spared = stored_other w m u t g (λ s e. spared (s, e))
-after_other w m (Posts u g) t spared = stored_other w m u t (united (graph_at m u) g) (λ s e. spared (s, e))
-after_other w m (Creates r g) t spared = stored_other w m (Named (new_name w.base m r)) t g (λ s e. spared (s, e))
+after_other : (w : Setting) (m : Dataset) (q : Operation) (t : Target) → (TakesPlainly w m q t → ⊥) → graph_at (after w m q) t ≡ graph_at m t
+after_other w m (Puts u g) t spared = stored_other w m u t g (λ s e. spared (s, ap Some e))
+after_other w m (Posts u g) t spared = stored_other w m u t (united (graph_at m u) g) (λ s e. spared (s, ap Some e))
+after_other w m (Creates r g) t spared = stored_other w m (Named (new_name w.base m r)) t g (λ s e. spared (s, ap Some e))
 after_other w m (Patches u ops) t spared =
     elim (is_there m u) as (λ b. (is_success (cond b (stored_status w m u (patched (graph_at m u) ops)) 404) ≡ true → u ≢ t) → graph_at (cond b (stored w m u (patched (graph_at m u) ops)) m) t ≡ graph_at m t) [
       | true ↦ λ k. stored_other w m u t (patched (graph_at m u) ops) k
       | false ↦ λ k. refl
-    ] (λ s e. spared (s, e))
+    ] (λ s e. spared (s, ap Some e))
 after_other w m (Deletes u) t spared =
     elim (is_there m u) as (λ b. (is_success (cond b 204 404) ≡ true → u ≢ t) → graph_at (cond b (without_graph m u) m) t ≡ graph_at m t) [
       | true ↦ λ k. without_other m u t (k refl)
       | false ↦ λ k. refl
-    ] (λ s e. spared (s, e))
+    ] (λ s e. spared (s, ap Some e))
 after_other w m (Looks c) t spared = refl
 after_other w m (Reads c) t spared = refl
+
+-- neither does one on a condition
+pub after_if_other : (w : Setting) (m : State) (q : Asked) (t : Target) → (TakesEffect w m q t → ⊥) → graph_at (after_if w m q).dataset t ≡ graph_at m.dataset t
+after_if_other w m q t =
+    elim (is_late m q.since q.operation) as (λ b. ((is_success (cond b 412 (status_of w m.dataset q.operation)) ≡ true) × (operation_target w m.dataset q.operation ≡ Some t) → ⊥)
+    → graph_at (cond b m (done_by w m q.operation)).dataset t ≡ graph_at m.dataset t) [
+      | true ↦ λ k. refl
+      | false ↦ λ k. after_other w m.dataset q.operation t k
+    ]
+
+-- What took effect was not too late: it did so as it would without its condition.
+pub record TookEffect (w : Setting) (m : State) (q : Asked) : Type 0 where
+  pub status : is_success (status_of w m.dataset q.operation) ≡ true
+  pub state : after_if w m q ≡ done_by w m q.operation
+  pub in_time : is_late m q.since q.operation ≡ false
+
+pub took_by : (w : Setting) (m : State) (q : Asked) → is_success (status_if w m q) ≡ true → TookEffect w m q
+took_by w m q e = go (is_late m q.since q.operation) refl
+  where
+    go : (b : Bool) → is_late m q.since q.operation ≡ b → TookEffect w m q
+    go true late = absurd (let no : is_success 412 ≡ true = ap (λ b. is_success (cond b 412 (status_of w m.dataset q.operation))) (sym late) ∙ e in cc)
+    go false in_time = record {
+      status = ap (λ b. is_success (cond b 412 (status_of w m.dataset q.operation))) (sym in_time) ∙ e;
+      state = ap (λ b. cond b m (done_by w m q.operation)) in_time;
+      in_time = in_time;
+    }
 
 -- what each write leaves at its own target, where it took effect
 
@@ -140,7 +172,7 @@ stored_same w m t g =
       | false ↦ λ e. refl
     ]
 
-pub after_same : OthersLeaveAll
+after_same : (w : Setting) (m : Dataset) (q : Operation) → is_success (status_of w m q) ≡ false → after w m q ≡ m
 after_same w m (Puts t g) e = stored_same w m t g e
 after_same w m (Posts t g) e = stored_same w m t (united (graph_at m t) g) e
 after_same w m (Creates r g) e = stored_same w m (Named (new_name w.base m r)) g e
@@ -157,10 +189,25 @@ after_same w m (Deletes t) e =
 after_same w m (Looks c) e = refl
 after_same w m (Reads c) e = refl
 
+-- what takes no effect leaves the state
+done_same : (w : Setting) (m : State) (q : Operation) → is_success (status_of w m.dataset q) ≡ false → done_by w m q ≡ m
+done_same w m q e = λ i. record {
+  dataset = after_same w m.dataset q e i;
+  commit = (ap (λ b. m.commit + cond b 1 0) e ∙ add-zero m.commit) i;
+  last_writes = ap (λ b. cond b (last_writes_after w m.dataset m.last_writes (m.commit + 1) q) m.last_writes) e i;
+}
+
+pub others_leave : OthersLeaveAll
+others_leave w m q =
+    elim (is_late m q.since q.operation) as (λ b. is_success (cond b 412 (status_of w m.dataset q.operation)) ≡ false → cond b m (done_by w m q.operation) ≡ m) [
+      | true ↦ λ e. refl
+      | false ↦ λ e. done_same w m q.operation e
+    ]
+
 -- the later operations leave the target's graph
-spared : (w : Setting) (t : Target) (earlier later : List Operation) → SpareTarget w t earlier later → graph_at (after_all w (later ++ earlier)) t ≡ graph_at (after_all w earlier) t
-spared w t earlier [] s = refl
-spared w t earlier (q ∷ later) s = after_other w (after_all w (later ++ earlier)) q t s.1 ∙ spared w t earlier later s.0
+spared : (w : Setting) (c : ℕ) (t : Target) (earlier later : List Asked) → SpareTarget w c t earlier later → graph_at (dataset_by w c (later ++ earlier)) t ≡ graph_at (dataset_by w c earlier) t
+spared w c t earlier [] s = refl
+spared w c t earlier (q ∷ later) s = after_if_other w (after_all_if w c (later ++ earlier)) q t s.1 ∙ spared w c t earlier later s.0
 
 -- what is shown of a graph that is there
 has_graph : (w : Setting) (m : Dataset) (t : Target) (g : Graph) → graph_at m t ≡ Some g → HasGraph w m t g
@@ -175,19 +222,28 @@ pub lines-left : (t : Target) → lines_if (left_of t) ≡ []
 lines-left Default = nil_from_length _ (length-map (triples_of empty_graph) line_of ∙ empty_has_none)
 lines-left (Named n) = refl
 
+-- what took effect, and was spared since, is there
+stays : (w : Setting) (c : ℕ) (earlier later : List Asked) (q : Asked) (t : Target) (o : Option Graph) → is_success (status_if w (after_all_if w c earlier) q) ≡ true
+    → SpareTarget w c t (q ∷ earlier) later → (is_success (status_of w (dataset_by w c earlier) q.operation) ≡ true → graph_at (after w (dataset_by w c earlier) q.operation) t ≡ o)
+    → graph_at (dataset_by w c (later ++ q ∷ earlier)) t ≡ o
+stays w c earlier later q t o e s own =
+    let took = took_by w (after_all_if w c earlier) q e in
+    spared w c t (q ∷ earlier) later s ∙ ap (λ (m : State). graph_at m.dataset t) took.state ∙ own took.status
+
 pub puts_leave : PutsLeave
-puts_leave w earlier t g later e s = has_graph w _ t g (spared w t (Puts t g ∷ earlier) later s ∙ put_own w (after_all w earlier) t g e)
+puts_leave w c earlier since t g later e s = has_graph w _ t g (stays w c earlier later (asked_since since (Puts t g)) t (Some g) e s (put_own w (dataset_by w c earlier) t g))
 
 pub posts_leave : PostsLeave
-posts_leave w earlier t g later e s = has_graph w _ t _ (spared w t (Posts t g ∷ earlier) later s ∙ post_own w (after_all w earlier) t g e)
+posts_leave w c earlier since t g later e s = has_graph w _ t _ (stays w c earlier later (asked_since since (Posts t g)) t _ e s (post_own w (dataset_by w c earlier) t g))
 
 pub creates_leave : CreatesLeave
-creates_leave w earlier r g name is later e s = has_graph w _ (Named name) g (spared w (Named name) (Creates r g ∷ earlier) later s ∙ create_own w (after_all w earlier) r g name is e)
+creates_leave w c earlier since r g name is later e s =
+    has_graph w _ (Named name) g (stays w c earlier later (asked_since since (Creates r g)) (Named name) (Some g) e s (create_own w (dataset_by w c earlier) r g name is))
 
 pub patches_leave : PatchesLeave
-patches_leave w earlier t ops later e s = has_graph w _ t _ (spared w t (Patches t ops ∷ earlier) later s ∙ patch_own w (after_all w earlier) t ops e)
+patches_leave w c earlier since t ops later e s = has_graph w _ t _ (stays w c earlier later (asked_since since (Patches t ops)) t _ e s (patch_own w (dataset_by w c earlier) t ops))
 
 pub deletes_leave : DeletesLeave
-deletes_leave w earlier t later e s =
-    let gone : graph_at (after_all w (later ++ Deletes t ∷ earlier)) t ≡ left_of t = spared w t (Deletes t ∷ earlier) later s ∙ delete_own w (after_all w earlier) t e in
+deletes_leave w c earlier since t later e s =
+    let gone = stays w c earlier later (asked_since since (Deletes t)) t (left_of t) e s (delete_own w (dataset_by w c earlier) t) in
     record { status = ap (λ o. cond (is_some o) 200 404) gone ∙ status-left t; lines = ap lines_if gone ∙ lines-left t }

@@ -22,16 +22,16 @@ use Rattle.gs_protocol_laws.specs.ReadBack.{IsWrite, SpareSince}
 -- A whole GET of all graphs is given the lines that the dataset had when it was pinned, whatever other seats did since.
 abbrev pub AllGetsGiveTheDataset : Type 0
 AllGetsGiveTheDataset = (start : Start) (before whole : History) (seat : ℕ) (bytes : List ℕ) → IsLegal start whole
-    → IsWholeGet seat All before whole bytes → bytes ≡ concat (quads_of (dataset_after start.setting before))
+    → IsWholeGet seat All before whole bytes → bytes ≡ concat (quads_of (dataset_after start before))
 
 -- A HEAD of all graphs is answered 200, whatever they are,
 abbrev pub AllHeadsAreOk : Type 0
-AllHeadsAreOk = (start : Start) (h : History) (seat s : ℕ) (name : Option (List ℕ))
-    → IsLegal start ((At seat (Head All), Status s name) ∷ h) → s ≡ 200
+AllHeadsAreOk = (start : Start) (h : History) (seat s number : ℕ) (name : Option (List ℕ))
+    → IsLegal start ((At seat (Head All), Status s name number) ∷ h) → s ≡ 200
 
 -- and so is a GET.
 abbrev pub AllPinsAreOk : Type 0
-AllPinsAreOk = (start : Start) (h : History) (seat s : ℕ) → IsLegal start ((At seat (Pin All), Pinned s) ∷ h) → s ≡ 200
+AllPinsAreOk = (start : Start) (h : History) (seat s number : ℕ) → IsLegal start ((At seat (Pin All), Pinned s number) ∷ h) → s ≡ 200
 
 -- none of these events, of whichever seat, was a write that was answered 201 or 204
 abbrev pub WriteNothing : History → Type 0
@@ -59,12 +59,12 @@ pub record HasLinesOf (t : Target) (g : Graph) (lines : List (List ℕ)) (bytes 
 -- A whole GET of all graphs has each graph that was there when it was pinned, among the lines of the dataset.
 abbrev pub AllGetsHaveEachGraph : Type 0
 AllGetsHaveEachGraph = (start : Start) (before whole : History) (seat : ℕ) (t : Target) (g : Graph) (bytes : List ℕ) → IsLegal start whole
-    → IsWholeGet seat All before whole bytes → graph_at (dataset_after start.setting before) t ≡ Some g
-    → HasLinesOf t g (quads_of (dataset_after start.setting before)) bytes
+    → IsWholeGet seat All before whole bytes → graph_at (dataset_after start before) t ≡ Some g
+    → HasLinesOf t g (quads_of (dataset_after start before)) bytes
 
 -- So a PUT is read back there too, until a later write of its target takes effect.
 abbrev pub PutsAreInAllGets : Type 0
 PutsAreInAllGets = (start : Start) (before later whole : History) (x : Event × Answer) (t : Target) (g : Graph) (seat : ℕ) (bytes : List ℕ)
-    → IsLegal start whole → IsWrite before x (Puts t g) → SpareSince start.setting t (x ∷ before) later
+    → IsLegal start whole → IsWrite before x (Puts t g) → SpareSince start t (x ∷ before) later
     → IsWholeGet seat All (later ++ x ∷ before) whole bytes
-    → HasLinesOf t g (quads_of (dataset_after start.setting (later ++ x ∷ before))) bytes
+    → HasLinesOf t g (quads_of (dataset_after start (later ++ x ∷ before))) bytes

@@ -10,8 +10,8 @@ use Rattle.gs_event.specs.Histories.{History, Start, IsLegal, points_of}
 
 -- an answer ends the upload or the patch of its seat: it was committed, with whatever status, or given up
 abbrev pub ends_upload : Action → Answer → Bool
-ends_upload Commit (Status s name) = true
-ends_upload (CommitPatch ops) (Status s name) = true
+ends_upload Commit (Status s name number) = true
+ends_upload (CommitPatch ops) (Status s name number) = true
 ends_upload Cancel Cancelled = true
 ends_upload action a = false
 

@@ -23,8 +23,10 @@ pub record IsWholePatch (seat : ℕ) (t : Target) (before_commit whole : History
   pub request : ℕ
   pub status : ℕ
   pub name : Option (List ℕ)
-  pub opened : before_commit ≡ since ++ (At seat (OpenPatch t), Opened request) ∷ before
-  pub events : whole ≡ (At seat (CommitPatch ops), Status status name) ∷ before_commit
+  pub number : ℕ
+  pub condition : Option ℕ
+  pub opened : before_commit ≡ since ++ (At seat (OpenPatch t condition), Opened request) ∷ before
+  pub events : whole ≡ (At seat (CommitPatch ops), Status status name number) ∷ before_commit
   pub goes_on : LeaveUpload seat since
   pub success : is_success status ≡ true
 
@@ -32,16 +34,18 @@ pub record IsWholePatch (seat : ℕ) (t : Target) (before_commit whole : History
 pub record IsWholeDelete (seat : ℕ) (t : Target) (before whole : History) : Type 0 where
   pub status : ℕ
   pub name : Option (List ℕ)
-  pub events : whole ≡ (At seat (Delete t), Status status name) ∷ before
+  pub number : ℕ
+  pub condition : Option ℕ
+  pub events : whole ≡ (At seat (Delete t condition), Status status name number) ∷ before
   pub success : is_success status ≡ true
 
 -- A PATCH is read back: what its operations make of the graph that was there before its commit.
 abbrev pub WholePatchesAreReadBack : Type 0
 WholePatchesAreReadBack = (start : Start) (before whole later : History) (seat : ℕ) (t : Target) (ops : Vec Op Global) → IsWholePatch seat t before whole ops
-    → IsLegal start (later ++ whole) → SpareSince start.setting t whole later
-    → Shows start (later ++ whole) t 200 (lines_of (patched (graph_at (dataset_after start.setting before) t) ops.items))
+    → IsLegal start (later ++ whole) → SpareSince start t whole later
+    → Shows start (later ++ whole) t 200 (lines_of (patched (graph_at (dataset_after start before) t) ops.items))
 
 -- So is a DELETE: 404 for a named graph, and for the default graph 200 and no line.
 abbrev pub WholeDeletesAreReadBack : Type 0
 WholeDeletesAreReadBack = (start : Start) (before whole later : History) (seat : ℕ) (t : Target) → IsWholeDelete seat t before whole
-    → IsLegal start (later ++ whole) → SpareSince start.setting t whole later → Shows start (later ++ whole) t (status_without t) []
+    → IsLegal start (later ++ whole) → SpareSince start t whole later → Shows start (later ++ whole) t (status_without t) []

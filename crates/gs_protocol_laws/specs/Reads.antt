@@ -49,14 +49,15 @@ pub record IsWholeGet (seat : ℕ) (c : Scope) (before whole : History) (bytes :
   pub since : History
   pub count : ℕ
   pub piece : Vec ℕ Global
-  pub events : whole ≡ (At seat (Piece count), Lines piece true) ∷ (since ++ (At seat (Pin c), Pinned 200) ∷ before)
+  pub number : ℕ
+  pub events : whole ≡ (At seat (Piece count), Lines piece true) ∷ (since ++ (At seat (Pin c), Pinned 200 number) ∷ before)
   pub goes_on : LeaveRead seat since
   pub given : bytes ≡ bytes_to seat ((At seat (Piece count), Lines piece true) ∷ since)
 
 -- A whole GET is given the lines that its graph, or all graphs, had when it was pinned, whatever other seats did since.
 abbrev pub GetsGiveTheirLines : Type 0
 GetsGiveTheirLines = (start : Start) (before whole : History) (seat : ℕ) (c : Scope) (bytes : List ℕ) → IsLegal start whole
-    → IsWholeGet seat c before whole bytes → bytes ≡ concat (lines_in (dataset_after start.setting before) c)
+    → IsWholeGet seat c before whole bytes → bytes ≡ concat (lines_in (dataset_after start before) c)
 
 -- how many lines an action asked for, where it was answered with lines
 abbrev pub lines_asked : Action → Answer → ℕ
@@ -76,6 +77,6 @@ lines_to seat (x ∷ before) = lines_to seat before + event_lines seat x.0 x.1
 -- A GET that has had only some of its pieces, as one that is cut off, was given the first of the lines that it would
 -- have been given whole, in their order, and nothing else: as many as its pieces asked for.
 abbrev pub CutGetsGiveTheFirst : Type 0
-CutGetsGiveTheFirst = (start : Start) (before since : History) (seat : ℕ) (c : Scope) → IsLegal start (since ++ (At seat (Pin c), Pinned 200) ∷ before)
+CutGetsGiveTheFirst = (start : Start) (before since : History) (seat number : ℕ) (c : Scope) → IsLegal start (since ++ (At seat (Pin c), Pinned 200 number) ∷ before)
     → LeaveRead seat since
-    → bytes_to seat since ≡ concat (take (lines_to seat since) (lines_in (dataset_after start.setting before) c))
+    → bytes_to seat since ≡ concat (take (lines_to seat since) (lines_in (dataset_after start before) c))

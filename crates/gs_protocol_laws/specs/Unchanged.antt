@@ -8,7 +8,7 @@ use Rattle.gs_event.specs.declared.events.Event.TheVariants.{Seat as At}
 use Rattle.gs_event.specs.declared.answers.Answer.{Answer}
 use Rattle.gs_event.specs.declared.answers.Answer.TheVariants.{Status}
 use Rattle.gs_event.specs.Views.{is_written}
-use Rattle.gs_event.specs.Histories.{History, Start, IsLegal, dataset_after}
+use Rattle.gs_event.specs.Histories.{History, Start, IsLegal, dataset_after, state_after}
 use Rattle.gs_protocol_laws.specs.Writes.{status_without}
 use Rattle.gs_protocol_laws.specs.ReadBack.{SpareSince, Shows}
 
@@ -16,15 +16,20 @@ use Rattle.gs_protocol_laws.specs.ReadBack.{SpareSince, Shows}
 -- each write that was answered otherwise.
 abbrev pub OnlyWritesChange : Type 0
 OnlyWritesChange = (start : Start) (before : History) (x : Event × Answer) → IsLegal start (x ∷ before) → is_written x.1 ≡ false
-    → dataset_after start.setting (x ∷ before) ≡ dataset_after start.setting before
+    → dataset_after start (x ∷ before) ≡ dataset_after start before
+
+-- So are the number of the last commit, and those of the last writes.
+abbrev pub OnlyWritesChangeNumbers : Type 0
+OnlyWritesChangeNumbers = (start : Start) (before : History) (x : Event × Answer) → IsLegal start (x ∷ before) → is_written x.1 ≡ false
+    → state_after start (x ∷ before) ≡ state_after start before
 
 -- A target that nothing wrote since the start is missing: 404, and for the default graph 200 and no line.
 abbrev pub UnwrittenIsMissing : Type 0
-UnwrittenIsMissing = (start : Start) (h : History) (t : Target) → IsLegal start h → SpareSince start.setting t [] h
+UnwrittenIsMissing = (start : Start) (h : History) (t : Target) → IsLegal start h → SpareSince start t [] h
     → Shows start h t (status_without t) []
 
 -- Two HEADs of a target between which nothing wrote it have one status.
 abbrev pub HeadsAgree : Type 0
-HeadsAgree = (start : Start) (before between : History) (seat seat_later s s_later : ℕ) (t : Target) (name name_later : Option (List ℕ))
-    → IsLegal start ((At seat_later (Head (One t)), Status s_later name_later) ∷ (between ++ (At seat (Head (One t)), Status s name) ∷ before))
-    → SpareSince start.setting t ((At seat (Head (One t)), Status s name) ∷ before) between → s_later ≡ s
+HeadsAgree = (start : Start) (before between : History) (seat seat_later s s_later number number_later : ℕ) (t : Target) (name name_later : Option (List ℕ))
+    → IsLegal start ((At seat_later (Head (One t)), Status s_later name_later number_later) ∷ (between ++ (At seat (Head (One t)), Status s name number) ∷ before))
+    → SpareSince start t ((At seat (Head (One t)), Status s name number) ∷ before) between → s_later ≡ s

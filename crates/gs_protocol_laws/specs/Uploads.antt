@@ -38,15 +38,17 @@ triples_from seat (x ∷ before) = triples_from seat before ++ event_triples sea
 pub record IsWholeUpload (seat : ℕ) (kind : UploadKind) (before whole : History) (name : Option (List ℕ)) (g : Graph) : Type 0 where
   pub since : History
   pub request : ℕ
+  pub condition : Option ℕ
   pub status : ℕ
-  pub events : whole ≡ (At seat Commit, Status status name) ∷ (since ++ (At seat (Open kind), Opened request) ∷ before)
+  pub number : ℕ
+  pub events : whole ≡ (At seat Commit, Status status name number) ∷ (since ++ (At seat (Open kind condition), Opened request) ∷ before)
   pub goes_on : LeaveUpload seat since
   pub success : is_success status ≡ true
   pub brought : g ≡ graph_of (triples_from seat since)
 
 -- After an upload, and later events of which none wrote the target, a HEAD and a GET are answered 200, and a GET is given these lines.
 abbrev pub IsShownAfter : Start → History → Target → Graph → Type 0
-IsShownAfter start whole t g = (later : History) → IsLegal start (later ++ whole) → SpareSince start.setting t whole later
+IsShownAfter start whole t g = (later : History) → IsLegal start (later ++ whole) → SpareSince start t whole later
     → Shows start (later ++ whole) t 200 (lines_of g)
 
 -- the history before the commit of an upload, which is the newest event
@@ -63,7 +65,7 @@ PutUploadsAreReadBack = (start : Start) (before whole : History) (seat : ℕ) (t
 abbrev pub PostUploadsAreReadBack : Type 0
 PostUploadsAreReadBack = (start : Start) (before whole : History) (seat : ℕ) (t : Target) (name : Option (List ℕ)) (g : Graph)
     → IsWholeUpload seat (Post t) before whole name g
-    → IsShownAfter start whole t (united (graph_at (dataset_after start.setting (before_commit whole)) t) g)
+    → IsShownAfter start whole t (united (graph_at (dataset_after start (before_commit whole)) t) g)
 
 -- So is a new graph, under the name that was answered.
 abbrev pub NewUploadsAreReadBack : Type 0

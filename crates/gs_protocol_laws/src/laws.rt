@@ -7,7 +7,8 @@ ghost use Rattle.gs_protocol_laws.specs.Writes.{PatchesLeave, DeletesLeave, Othe
 ghost use Rattle.gs_protocol_laws.specs.Reads.{GetsGiveTheirLines, CutGetsGiveTheFirst};
 ghost use Rattle.gs_protocol_laws.specs.ReadBack.{PutsAreReadBack, PostsAreReadBack, CreatesAreReadBack};
 ghost use Rattle.gs_protocol_laws.specs.ReadBack.{PatchesAreReadBack, DeletesAreReadBack, GetsAgree};
-ghost use Rattle.gs_protocol_laws.specs.Unchanged.{OnlyWritesChange, UnwrittenIsMissing, HeadsAgree};
+ghost use Rattle.gs_protocol_laws.specs.Unchanged.{OnlyWritesChange, OnlyWritesChangeNumbers};
+ghost use Rattle.gs_protocol_laws.specs.Unchanged.{UnwrittenIsMissing, HeadsAgree};
 ghost use Rattle.gs_protocol_laws.specs.AllGraphs.{AllGetsGiveTheDataset, AllHeadsAreOk, AllPinsAreOk};
 ghost use Rattle.gs_protocol_laws.specs.AllGraphs.{AllGetsAgree, AllGetsHaveEachGraph, PutsAreInAllGets};
 ghost use Rattle.gs_protocol_laws.specs.DatasetLines.{DefaultIsFirst, NamedAreInOrder};
@@ -20,6 +21,9 @@ ghost use Rattle.gs_protocol_laws.specs.Statuses.{IdleHeadsAreTold, IdlePinsAreT
 ghost use Rattle.gs_protocol_laws.specs.Statuses.{MadeGraphsWereMissing, ChangedGraphsWereThere};
 ghost use Rattle.gs_protocol_laws.specs.Statuses.{MissingGraphsWereMissing};
 ghost use Rattle.gs_protocol_laws.specs.Statuses.{NewGraphsAreNamed, OnlyNewGraphsAreNamed};
+ghost use Rattle.gs_protocol_laws.specs.Numbers.{CommitsCountWrites, PinsReportTheCommit};
+ghost use Rattle.gs_protocol_laws.specs.Numbers.{HeadsReportTheCommit, WritesReportTheirCommit};
+ghost use Rattle.gs_protocol_laws.specs.Numbers.{ConditionsLoseNothing, LateWritesWereLate};
 ghost use Rattle.gs_protocol_laws.specs.Lines.{StandsInLine, QuadLinesTell};
 
 /// What a write that was answered 201 or 204 leaves at its target stays there until a later write of that
@@ -42,10 +46,11 @@ pub fn gets_give_their_lines()
     ensures agree { GetsAgree }
 {}
 
-/// Nothing changes but by a write that is answered 201 or 204: so a target that nothing wrote is missing, and
-/// two HEADs between which nothing wrote it have one status.
+/// Nothing changes but by a write that is answered 201 or 204, no graph and no number: so a target that
+/// nothing wrote is missing, and two HEADs between which nothing wrote it have one status.
 pub fn only_writes_change()
     ensures others { OnlyWritesChange }
+    ensures state { OnlyWritesChangeNumbers }
     ensures unwritten { UnwrittenIsMissing }
     ensures heads { HeadsAgree }
 {}
@@ -121,6 +126,28 @@ pub fn statuses_tell_what_was_there()
 pub fn only_new_graphs_are_named()
     ensures named { NewGraphsAreNamed }
     ensures only { OnlyNewGraphsAreNamed }
+{}
+
+/// A GET and a HEAD report the number of the last commit, and a write that was answered 201 or 204 that of its
+/// own. The last commit's number is the start's, and one more for each such write.
+pub fn numbers_are_of_commits()
+    ensures count { CommitsCountWrites }
+    ensures get { PinsReportTheCommit }
+    ensures head { HeadsReportTheCommit }
+    ensures write { WritesReportTheirCommit }
+{}
+
+/// A write on condition loses nothing: where it took effect since the number that a GET had reported, nobody
+/// wrote its target between, and the target had the graph still that the GET was given.
+pub fn conditions_lose_nothing()
+    ensures { ConditionsLoseNothing }
+{}
+
+/// A write that was answered 412 came too late: it had a condition, whose number is less than the one that it
+/// was answered; and that is the number of the last write of its target, or, where there is no such graph,
+/// of the last Delete of a name.
+pub fn late_writes_were_late()
+    ensures { LateWritesWereLate }
 {}
 
 /// A triple's line with a graph's name is its line with the name before the dot, and tells both.

@@ -1,4 +1,4 @@
-use Rattle.gs_protocol_laws.proofs.WriteLemmas.{puts_leave, posts_leave, creates_leave, patches_leave, deletes_leave, after_same}
+use Rattle.gs_protocol_laws.proofs.WriteLemmas.{puts_leave, posts_leave, creates_leave, patches_leave, deletes_leave, others_leave}
 use Rattle.gs_protocol_laws.proofs.laws.writes_stay.Goals as goal
 
 pub returns-clause-put : goal.returns-clause-put
@@ -17,4 +17,4 @@ pub returns-clause-delete : goal.returns-clause-delete
 returns-clause-delete c = deletes_leave
 
 pub returns-clause-others : goal.returns-clause-others
-returns-clause-others c = after_same
+returns-clause-others c = others_leave
