@@ -34,15 +34,16 @@ pub enum Edit {
     Where(Mold, Option<Mold>),
 }
 
-/// What a seat is asked.
+/// What a seat is asked. Some writes have a condition: the commit number since which their graph must not have
+/// been written.
 #[derive(Drop)]
 pub enum Ask {
-    Open(Kind),
-    OpenPatch(Place),
+    Open(Kind, Option<u64>),
+    OpenPatch(Place, Option<u64>),
     Stage(Vec<usize>),
     Commit,
     Patch(Vec<Edit>),
-    Delete(Place),
+    Delete(Place, Option<u64>),
     Head(Scope),
     Pin(Scope),
     Piece(u32),
@@ -52,12 +53,12 @@ pub enum Ask {
 /// The same without what it brings, by number in the order of `Ask`.
 pub fn sort_of(ask: &Ask) -> usize {
     match ask {
-        Ask::Open(_) => 0,
-        Ask::OpenPatch(_) => 1,
+        Ask::Open(_, _) => 0,
+        Ask::OpenPatch(_, _) => 1,
         Ask::Stage(_) => 2,
         Ask::Commit => 3,
         Ask::Patch(_) => 4,
-        Ask::Delete(_) => 5,
+        Ask::Delete(_, _) => 5,
         Ask::Head(_) => 6,
         Ask::Pin(_) => 7,
         Ask::Piece(_) => 8,

@@ -109,9 +109,9 @@ pub fn drawn_edits(alloc: Global, draws: &mut Draws) -> Result<Vec<Edit>, AllocE
 pub fn drawn_any(alloc: Global, draws: &mut Draws, made: &[Place]) -> Result<Ask, AllocError> {
     let place = drawn_any_place(draws, made);
     match draws.below(10) {
-        0 => Ok(Ask::Open(drawn_kind(draws, made))),
-        1 => Ok(Ask::OpenPatch(place)),
-        2 => Ok(Ask::Delete(place)),
+        0 => Ok(Ask::Open(drawn_kind(draws, made), None)),
+        1 => Ok(Ask::OpenPatch(place, None)),
+        2 => Ok(Ask::Delete(place, None)),
         3 => Ok(Ask::Head(Scope::One(place))),
         4 => Ok(Ask::Pin(Scope::One(place))),
         _ => drawn_inner(alloc, draws),
@@ -158,9 +158,9 @@ pub fn drawn_for_read(draws: &mut Draws) -> Ask {
 pub fn drawn_for_idle(draws: &mut Draws, made: &[Place]) -> Ask {
     let place = drawn_any_place(draws, made);
     match draws.below(100) {
-        0..40 => Ask::Open(drawn_kind(draws, made)),
-        40..62 => Ask::OpenPatch(place),
-        62..70 => Ask::Delete(place),
+        0..40 => Ask::Open(drawn_kind(draws, made), None),
+        40..62 => Ask::OpenPatch(place, None),
+        62..70 => Ask::Delete(place, None),
         70..74 => Ask::Head(Scope::One(place)),
         _ => Ask::Pin(Scope::One(place)),
     }
@@ -181,4 +181,35 @@ fn drawn_scope(draws: &mut Draws, scope: Scope) -> Scope {
         return Scope::All;
     }
     scope
+}
+
+/// How far below the last commit number a condition may be drawn.
+const NEAR: usize = 9;
+
+/// A commit number near the last one: below it, it, the next one, 0, or one that no commit has.
+fn drawn_near(draws: &mut Draws, commit: u64) -> u64 {
+    match draws.below(12) {
+        0 => 0,
+        1 => u64::MAX,
+        2 => commit.saturating_add(1),
+        _ => commit.saturating_sub(draws.below(NEAR) as u64),
+    }
+}
+
+/// No condition, or at one chance of four one that is drawn near the last commit number.
+fn drawn_since(draws: &mut Draws, commit: u64) -> Option<u64> {
+    if draws.is_one_in(4) {
+        return Some(drawn_near(draws, commit));
+    }
+    None
+}
+
+/// The same, but one in four writes has a condition. The last commit has this number.
+pub fn drawn_on_condition(draws: &mut Draws, ask: Ask, commit: u64) -> Ask {
+    match ask {
+        Ask::Open(kind, _) => Ask::Open(kind, drawn_since(draws, commit)),
+        Ask::OpenPatch(place, _) => Ask::OpenPatch(place, drawn_since(draws, commit)),
+        Ask::Delete(place, _) => Ask::Delete(place, drawn_since(draws, commit)),
+        other => other,
+    }
 }

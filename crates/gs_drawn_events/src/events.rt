@@ -106,12 +106,12 @@ fn upload(alloc: Global, kind: Kind) -> Result<UploadKind, Refusal> {
 
 fn action(alloc: Global, ask: &Ask) -> Result<Action, Refusal> {
     match ask {
-        Ask::Open(kind) => Ok(Action::Open(upload(alloc, *kind)?)),
-        Ask::OpenPatch(place) => Ok(Action::OpenPatch(target(alloc, *place)?)),
+        Ask::Open(kind, since) => Ok(Action::Open(upload(alloc, *kind)?, *since)),
+        Ask::OpenPatch(place, since) => Ok(Action::OpenPatch(target(alloc, *place)?, *since)),
         Ask::Stage(numbers) => Ok(Action::Stage(triples(alloc, numbers.as_slice())?)),
         Ask::Commit => Ok(Action::Commit),
         Ask::Patch(edits) => Ok(Action::CommitPatch(operations(alloc, edits.as_slice())?)),
-        Ask::Delete(place) => Ok(Action::Delete(target(alloc, *place)?)),
+        Ask::Delete(place, since) => Ok(Action::Delete(target(alloc, *place)?, *since)),
         Ask::Head(about) => Ok(Action::Head(scope(alloc, *about)?)),
         Ask::Pin(about) => Ok(Action::Pin(scope(alloc, *about)?)),
         Ask::Piece(count) => Ok(Action::Piece(*count)),

@@ -23,11 +23,11 @@ pub struct Judge {
 }
 
 impl Judge {
-    /// The judge of a new store.
-    pub fn new(alloc: Global, is_exact: bool, limits: Limits, lie: Lie) -> Judge {
+    /// The judge of a new store, which begins after the commit of this number.
+    pub fn new(alloc: Global, is_exact: bool, start: u64, limits: Limits, lie: Lie) -> Judge {
         Judge {
             alloc,
-            model: Model::new(alloc, limits, lie),
+            model: Model::new(alloc, start, limits, lie),
             is_exact,
             step: 0,
             sure: 0,

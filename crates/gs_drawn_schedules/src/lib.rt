@@ -11,5 +11,5 @@ mod totals;
 pub use effects::{Counts, Effect, Effects};
 pub use findings::{Kind, Moment, Stop};
 pub use judging::Judge;
-pub use plays::{Play, Subject, effect, on_both};
+pub use plays::{Play, Subject, effect, on_both, start_of};
 pub use totals::Totals;

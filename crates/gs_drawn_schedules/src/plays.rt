@@ -15,8 +15,23 @@ const EVENTS: usize = 300;
 /// From this number on schedules ask and read all graphs too.
 const FIRST_WIDE: u64 = 201;
 
+/// From this number on some writes have conditions too, and stores begin after a commit.
+const FIRST_ON_CONDITION: u64 = 301;
+
+/// The number of that commit.
+const START: u64 = 7;
+
 /// How many nodes and records the Reclaim after each event may free.
 const FEW: u64 = 3;
+
+/// The commit number that the stores of the schedule with this number begin with.
+pub fn start_of(number: u64) -> u64 {
+    if FIRST_ON_CONDITION <= number {
+        START
+    } else {
+        0
+    }
+}
 
 /// A store that takes events.
 pub trait Subject {
@@ -55,13 +70,21 @@ pub struct Play {
 }
 
 impl Play {
-    /// The schedule with this number. Every second one is exact, and those from `FIRST_WIDE` on are wide.
+    /// The schedule with this number. Every second one is exact, those from `FIRST_WIDE` on are wide, and those
+    /// from `FIRST_ON_CONDITION` on have conditions.
     pub fn new(alloc: Global, number: u64, limits: Limits, lie: Lie) -> Play {
         let is_exact = number % 2 == 0;
+        let has_conditions = FIRST_ON_CONDITION <= number;
         Play {
             alloc,
-            judge: Judge::new(alloc, is_exact, limits, lie),
-            script: Script::new(alloc, number, is_exact, FIRST_WIDE <= number),
+            judge: Judge::new(alloc, is_exact, start_of(number), limits, lie),
+            script: Script::new(
+                alloc,
+                number,
+                is_exact,
+                FIRST_WIDE <= number,
+                has_conditions,
+            ),
         }
     }
 

@@ -1,7 +1,7 @@
 //! The events of a schedule, drawn one by one by what the seats of the model do.
 use gs_drawn_events::{
     Ask, Kind, Scope, drawn_any, drawn_count, drawn_for_idle, drawn_for_patch, drawn_for_read,
-    drawn_for_upload, drawn_inner, drawn_list, drawn_place, drawn_wider,
+    drawn_for_upload, drawn_inner, drawn_list, drawn_on_condition, drawn_place, drawn_wider,
 };
 use gs_drawn_requests::Draws;
 use gs_version_models::{Model, Phase, SEATS};
@@ -12,8 +12,15 @@ pub fn seats() -> u16 {
     u16::try_from(SEATS).unwrap_or(1)
 }
 
-/// What is added to the number of a schedule for the seed of its second draws.
+/// What is added to the number of a schedule for the seed of its second draws, and of its third.
 const SECOND: u64 = 1_000_000;
+
+const THIRD: u64 = 2_000_000;
+
+/// The draws of this seed, if there are any.
+fn draws_if(is_so: bool, seed: u64) -> Option<Draws> {
+    if is_so { Some(Draws::new(seed)) } else { None }
+}
 
 /// What is drawn.
 #[derive(Drop)]
@@ -26,6 +33,8 @@ pub struct Script {
     /// Where some questions and reads are about all graphs, which are. These draws are others, so that all
     /// else is drawn as without them.
     wider: Option<Draws>,
+    /// Where some writes have conditions, which have, and what these are.
+    conditions: Option<Draws>,
     /// What comes next of an upload, the last first, at this seat.
     queue: Vec<Ask>,
     queue_seat: u16,
@@ -33,17 +42,19 @@ pub struct Script {
 
 impl Script {
     /// The events of the schedule with this number.
-    pub fn new(alloc: Global, number: u64, is_exact: bool, is_wide: bool) -> Script {
-        let wider = if is_wide {
-            Some(Draws::new(number.saturating_add(SECOND)))
-        } else {
-            None
-        };
+    pub fn new(
+        alloc: Global,
+        number: u64,
+        is_exact: bool,
+        is_wide: bool,
+        has_conditions: bool,
+    ) -> Script {
         Script {
             alloc,
             draws: Draws::new(number),
             is_exact,
-            wider,
+            wider: draws_if(is_wide, number.saturating_add(SECOND)),
+            conditions: draws_if(has_conditions, number.saturating_add(THIRD)),
             queue: Vec::new(alloc),
             queue_seat: 0,
         }
@@ -60,7 +71,8 @@ impl Script {
         } else {
             self.drawn_ask(model, seat)?
         };
-        Ok((seat, self.widened(ask)))
+        let ask = self.widened(ask);
+        Ok((seat, self.conditioned(ask, model.commit())))
     }
 
     /// The same, or about all graphs.
@@ -68,6 +80,14 @@ impl Script {
         match &mut self.wider {
             None => ask,
             Some(draws) => drawn_wider(draws, ask),
+        }
+    }
+
+    /// The same, or on a condition. The last commit has this number.
+    fn conditioned(&mut self, ask: Ask, commit: u64) -> Ask {
+        match &mut self.conditions {
+            None => ask,
+            Some(draws) => drawn_on_condition(draws, ask, commit),
         }
     }
 
@@ -94,7 +114,7 @@ impl Script {
         match model.phase(seat) {
             Phase::Idle => Ok(drawn_for_idle(&mut self.draws, made.as_slice())),
             Phase::Writing(_) => drawn_for_upload(self.alloc, &mut self.draws),
-            Phase::Patching(_) => drawn_for_patch(self.alloc, &mut self.draws),
+            Phase::Patching(_, _) => drawn_for_patch(self.alloc, &mut self.draws),
             Phase::Reading(_) => Ok(drawn_for_read(&mut self.draws)),
         }
     }
@@ -127,9 +147,9 @@ impl Script {
         match self.draws.below(100) {
             0..38 => {
                 self.queue_upload(seat)?;
-                Ok(Ask::Open(Kind::Put(place)))
+                Ok(Ask::Open(Kind::Put(place), None))
             }
-            38..50 => Ok(Ask::Delete(place)),
+            38..50 => Ok(Ask::Delete(place, None)),
             50..54 => Ok(Ask::Head(Scope::One(place))),
             54..60 => drawn_inner(self.alloc, &mut self.draws),
             _ => Ok(Ask::Pin(Scope::One(place))),

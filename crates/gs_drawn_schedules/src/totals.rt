@@ -14,9 +14,12 @@ pub struct Totals {
     /// How many of each sort were answered, and were refused.
     answered: [u64; SORTS],
     refused: [u64; SORTS],
-    /// Writes and looks that ended in 507, and in 404.
+    /// Writes and looks that ended in 507, in 404 and in 412.
     full: u64,
     missing: u64,
+    late: u64,
+    /// Opens and Deletes on a condition that were answered.
+    conditions: u64,
     /// Questions and reads of all graphs, and pieces of such reads.
     heads_of_all: u64,
     pins_of_all: u64,
@@ -42,6 +45,8 @@ impl Totals {
             refused: [0; SORTS],
             full: 0,
             missing: 0,
+            late: 0,
+            conditions: 0,
             heads_of_all: 0,
             pins_of_all: 0,
             pieces_of_all: 0,
@@ -69,12 +74,14 @@ impl Totals {
             add(count, 1);
         }
         match said {
-            Said::Status(507) => add(&mut self.full, 1),
-            Said::Status(404) => add(&mut self.missing, 1),
+            Said::Status(507, _) => add(&mut self.full, 1),
+            Said::Status(404, _) => add(&mut self.missing, 1),
+            Said::Status(412, _) => add(&mut self.late, 1),
             Said::Quads(_, _) => add(&mut self.pieces_of_all, 1),
             _ => {}
         }
         self.note_of_all(ask, said);
+        self.note_condition(ask, said);
         if is_stale && matches!(said, Said::Lines(_, _) | Said::Quads(_, _)) {
             add(&mut self.stale_pieces, 1);
         }
@@ -83,9 +90,20 @@ impl Totals {
     /// The same, where it may be about all graphs.
     fn note_of_all(&mut self, ask: &Ask, said: &Said) {
         match (ask, said) {
-            (Ask::Head(Scope::All), Said::Status(_)) => add(&mut self.heads_of_all, 1),
-            (Ask::Pin(Scope::All), Said::Pinned(_)) => add(&mut self.pins_of_all, 1),
+            (Ask::Head(Scope::All), Said::Status(_, _)) => add(&mut self.heads_of_all, 1),
+            (Ask::Pin(Scope::All), Said::Pinned(_, _)) => add(&mut self.pins_of_all, 1),
             _ => {}
+        }
+    }
+
+    /// The same, where it may be on a condition.
+    fn note_condition(&mut self, ask: &Ask, said: &Said) {
+        let has_condition = matches!(
+            ask,
+            Ask::Open(_, Some(_)) | Ask::OpenPatch(_, Some(_)) | Ask::Delete(_, Some(_))
+        );
+        if has_condition && !matches!(said, Said::Refused(_)) {
+            add(&mut self.conditions, 1);
         }
     }
 
@@ -116,6 +134,11 @@ impl Totals {
         write!(out, "refused:")?;
         Totals::print_counts(&self.refused, out)?;
         writeln!(out, "of these 507 {}, 404 {}", self.full, self.missing)?;
+        writeln!(
+            out,
+            "on condition: {} Opens and Deletes; 412 {}",
+            self.conditions, self.late,
+        )?;
         writeln!(
             out,
             "of all graphs: Head {} Pin {} Piece {}",

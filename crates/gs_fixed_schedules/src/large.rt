@@ -111,12 +111,12 @@ fn push_stages(
 
 /// Seat 0 puts the even triples.
 fn push_put(alloc: Global, lines: &mut Lines) -> Result<(), Refusal> {
-    let open = Action::Open(UploadKind::Put(target(alloc, Place::A)?));
+    let open = Action::Open(UploadKind::Put(target(alloc, Place::A)?), None);
     let opened = Bounds::exactly(1, 0);
     lines.push("Open", Event::Seat(0, open), "opened 1", opened)?;
     push_stages(alloc, lines, FIRST, opened)?;
     let commit = Event::Seat(0, Action::Commit);
-    lines.push("Commit", commit, "status 201", with_many())?;
+    lines.push("Commit", commit, "status 201, commit 1", with_many())?;
     Ok(())
 }
 
@@ -125,10 +125,10 @@ fn with_many() -> Bounds {
     Bounds::exactly(MANY.saturating_add(ONE_VERSION), MANY)
 }
 
-/// Seat 1 begins to read.
-fn push_pin(alloc: Global, lines: &mut Lines, bounds: Bounds) -> Result<(), Refusal> {
+/// Seat 1 begins to read, which is to be answered in these words.
+fn push_pin(alloc: Global, lines: &mut Lines, words: &str, bounds: Bounds) -> Result<(), Refusal> {
     let pin = Action::Pin(Scope::One(target(alloc, Place::A)?));
-    lines.push("Pin", Event::Seat(1, pin), "pinned 200", bounds)?;
+    lines.push("Pin", Event::Seat(1, pin), words, bounds)?;
     Ok(())
 }
 
@@ -152,7 +152,7 @@ fn with_one() -> Bounds {
 
 /// Seat 0 posts one triple, which takes no more nodes than it may.
 fn push_one(alloc: Global, lines: &mut Lines) -> Result<(), Refusal> {
-    let open = Action::Open(UploadKind::Post(target(alloc, Place::A)?));
+    let open = Action::Open(UploadKind::Post(target(alloc, Place::A)?), None);
     let opened = with_more(with_many(), 1);
     lines.push("Open", Event::Seat(0, open), "opened 2", opened)?;
     let mut one = Vec::new(alloc);
@@ -160,13 +160,13 @@ fn push_one(alloc: Global, lines: &mut Lines) -> Result<(), Refusal> {
     let stage = Event::Seat(0, Action::Stage(one));
     lines.push("Stage", stage, "staged", with_more(opened, 1))?;
     let commit = Event::Seat(0, Action::Commit);
-    lines.push("Commit", commit, "status 204", with_one())?;
+    lines.push("Commit", commit, "status 204, commit 2", with_one())?;
     Ok(())
 }
 
 /// Seat 0 posts the odd triples, each of which takes no more nodes than it may.
 fn push_post(alloc: Global, lines: &mut Lines) -> Result<(), Refusal> {
-    let open = Action::Open(UploadKind::Post(target(alloc, Place::A)?));
+    let open = Action::Open(UploadKind::Post(target(alloc, Place::A)?), None);
     let opened = with_more(with_one(), 1);
     lines.push("Open", Event::Seat(0, open), "opened 3", opened)?;
     push_stages(alloc, lines, FIRST.saturating_add(1), opened)?;
@@ -177,7 +177,7 @@ fn push_post(alloc: Global, lines: &mut Lines) -> Result<(), Refusal> {
         triples: ALL,
     };
     let commit = Event::Seat(0, Action::Commit);
-    lines.push("Commit", commit, "status 204", bounds)?;
+    lines.push("Commit", commit, "status 204, commit 3", bounds)?;
     Ok(())
 }
 
@@ -201,7 +201,7 @@ fn push_rest(alloc: Global, lines: &mut Lines) -> Result<(), Refusal> {
 fn push_end(alloc: Global, lines: &mut Lines) -> Result<(), Refusal> {
     let bounds = Bounds::exactly(ALL.saturating_add(ONE_VERSION), ALL);
     lines.push_reclaim(false, bounds)?;
-    push_pin(alloc, lines, bounds)?;
+    push_pin(alloc, lines, "pinned 200, commit 3", bounds)?;
     let all = words(alloc, FIRST, ALL, 1, "end")?;
     push_piece(lines, u32::MAX, all.as_str(), bounds)
 }
@@ -209,7 +209,7 @@ fn push_end(alloc: Global, lines: &mut Lines) -> Result<(), Refusal> {
 fn push_all(alloc: Global, lines: &mut Lines) -> Result<(), Refusal> {
     let first = with_many();
     push_put(alloc, lines)?;
-    push_pin(alloc, lines, first)?;
+    push_pin(alloc, lines, "pinned 200, commit 1", first)?;
     let given = words(alloc, FIRST, GIVEN, 2, "more")?;
     push_piece(lines, 10, given.as_str(), first)?;
     push_one(alloc, lines)?;

@@ -2,6 +2,7 @@
 //! after each.
 #![tactic(auto)]
 
+mod conditions;
 mod datasets;
 mod large;
 mod last;
@@ -9,6 +10,7 @@ mod lines;
 mod rows;
 mod seats;
 
+pub use conditions::on_condition;
 pub use datasets::{beside_kept_writes, beside_writes, two_versions, without_lines};
 pub use large::large_lines;
 pub use last::{last_node_lines, last_node_posts, last_term_lines};

@@ -30,6 +30,11 @@ fn number_of(seat: u16) -> u64 {
     FIRST.saturating_add(1).saturating_add(u64::from(seat))
 }
 
+/// The commit number of a seat's version: the first commit is that of the default graph.
+fn commit_of(seat: u16) -> u64 {
+    u64::from(seat).saturating_add(2)
+}
+
 /// A seat stages the triple of this number.
 fn stage(alloc: Global, seat: u16, number: u64) -> Result<Event, Refusal> {
     let mut one = Vec::new(alloc);
@@ -39,13 +44,13 @@ fn stage(alloc: Global, seat: u16, number: u64) -> Result<Event, Refusal> {
 
 /// Seat 0 puts the triple of the default graph.
 fn push_default(alloc: Global, lines: &mut Lines) -> Result<(), Refusal> {
-    let open = Action::Open(UploadKind::Put(target(alloc, Place::Default)?));
+    let open = Action::Open(UploadKind::Put(target(alloc, Place::Default)?), None);
     let opened = Bounds::exactly(1, 0);
     lines.push("Open", Event::Seat(0, open), "opened 1", opened)?;
     let staged = Bounds::exactly(2, 0);
     lines.push("Stage", stage(alloc, 0, FIRST)?, "staged", staged)?;
     let commit = Event::Seat(0, Action::Commit);
-    lines.push("Commit", commit, "status 204", versions(0))?;
+    lines.push("Commit", commit, "status 204, commit 1", versions(0))?;
     Ok(())
 }
 
@@ -53,7 +58,7 @@ fn push_default(alloc: Global, lines: &mut Lines) -> Result<(), Refusal> {
 fn push_version(alloc: Global, lines: &mut Lines, seat: u16) -> Result<(), Refusal> {
     let before = u64::from(seat);
     let request = before.saturating_add(2);
-    let open = Action::Open(UploadKind::Put(target(alloc, Place::A)?));
+    let open = Action::Open(UploadKind::Put(target(alloc, Place::A)?), None);
     let words = format!(in alloc; "opened {request}")?;
     let opened = versions_and(before, 1);
     lines.push("Open", Event::Seat(seat, open), words.as_str(), opened)?;
@@ -64,13 +69,12 @@ fn push_version(alloc: Global, lines: &mut Lines, seat: u16) -> Result<(), Refus
         "staged",
         staged,
     )?;
-    let status = if seat == 0 {
-        "status 201"
-    } else {
-        "status 204"
-    };
+    let status = if seat == 0 { 201 } else { 204 };
+    let number = commit_of(seat);
+    let words = format!(in alloc; "status {status}, commit {number}")?;
     let commit = Event::Seat(seat, Action::Commit);
-    lines.push("Commit", commit, status, versions(before.saturating_add(1)))?;
+    let bounds = versions(before.saturating_add(1));
+    lines.push("Commit", commit, words.as_str(), bounds)?;
     Ok(())
 }
 
@@ -78,7 +82,9 @@ fn push_version(alloc: Global, lines: &mut Lines, seat: u16) -> Result<(), Refus
 fn push_pin(alloc: Global, lines: &mut Lines, seat: u16) -> Result<(), Refusal> {
     let bounds = versions(u64::from(seat).saturating_add(1));
     let pin = Event::Seat(seat, Action::Pin(Scope::All));
-    lines.push("Pin", pin, "pinned 200", bounds)?;
+    let number = commit_of(seat);
+    let words = format!(in alloc; "pinned 200, commit {number}")?;
+    lines.push("Pin", pin, words.as_str(), bounds)?;
     let mut words = String::from_str(alloc, "lines ")?;
     push_line(&mut words, alloc, FIRST)?;
     words.push_str("more")?;

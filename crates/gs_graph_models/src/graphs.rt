@@ -5,7 +5,7 @@ use crate::sets::Set;
 use gs_drawn_events::Place;
 use std::alloc::{AllocError, Global};
 
-/// A graph, none where it was taken away, and the commit that made it so.
+/// A graph, none where it was taken away, and the commit that made it so: the last write on it that took effect.
 #[derive(Clone, Copy, Drop)]
 pub struct Graph {
     place: Place,
@@ -14,15 +14,15 @@ pub struct Graph {
 }
 
 impl Graph {
-    /// A graph before its first commit. The default graph is always there.
-    fn at_first(place: Place) -> Graph {
+    /// A graph before its first commit, in a store that begins after this one. The default graph is always there.
+    fn at_first(place: Place, start: u64) -> Graph {
         Graph {
             place,
             triples: match place {
                 Place::Default => Some(Set::none()),
                 _ => None,
             },
-            birth: 0,
+            birth: start,
         }
     }
 
@@ -47,16 +47,23 @@ struct Past {
 #[derive(Drop)]
 pub struct Graphs {
     alloc: Global,
+    /// The commit number that the store begins with.
+    start: u64,
+    /// The commit number of the last Delete of a name, and that of the start where there was none.
+    removed: u64,
     list: Vec<Graph>,
     past: Vec<Past>,
     names: Names,
 }
 
 impl Graphs {
-    /// None but the default graph. Names stand in order with their brackets, or wrongly without the last.
-    pub fn new(alloc: Global, are_names_bare: bool) -> Graphs {
+    /// None but the default graph, in a store that begins after this commit. Names stand in order with their
+    /// brackets, or wrongly without the last.
+    pub fn new(alloc: Global, start: u64, are_names_bare: bool) -> Graphs {
         Graphs {
             alloc,
+            start,
+            removed: start,
             list: Vec::new(alloc),
             past: Vec::new(alloc),
             names: Names::new(alloc, are_names_bare),
@@ -70,7 +77,17 @@ impl Graphs {
                 return *graph;
             }
         }
-        Graph::at_first(place)
+        Graph::at_first(place, self.start)
+    }
+
+    /// The commit number of the last write on a graph that took effect. A name that is missing has that of the
+    /// last Delete of any name, and what was never written that of the start.
+    pub fn last_write(&self, place: Place) -> u64 {
+        let graph = self.get(place);
+        match graph.triples {
+            Some(_) => graph.birth,
+            None => self.removed,
+        }
     }
 
     /// The triples of a graph, if there is such a graph.
@@ -90,7 +107,7 @@ impl Graphs {
                 return graph.triples;
             }
         }
-        Graph::at_first(place).triples
+        Graph::at_first(place, self.start).triples
     }
 
     /// Whether all graphs are as they were after this commit.
@@ -121,6 +138,9 @@ impl Graphs {
         triples: Option<Set>,
         birth: u64,
     ) -> Result<(), AllocError> {
+        if triples.is_none() {
+            self.removed = birth;
+        }
         let new = Graph {
             place,
             triples,

@@ -5,11 +5,11 @@
 mod stores;
 
 use crate::stores::{Played, SMALL, WHOLE};
-use gs_drawn_schedules::{Judge, Play, Stop, Totals};
+use gs_drawn_schedules::{Judge, Play, Stop, Totals, start_of};
 use gs_event::Limits;
 use gs_fixed_schedules::{
     Lines, beside_kept_writes, beside_writes, large_lines, last_node_lines, last_node_posts,
-    last_term_lines, seat_lines, two_versions, without_lines,
+    last_term_lines, on_condition, seat_lines, two_versions, without_lines,
 };
 use gs_version_models::Lie;
 use std::alloc::Global;
@@ -17,13 +17,18 @@ use std::env;
 use std::io::{self, Write};
 use std::rt::Env;
 
-/// The last schedule that asks of single graphs alone, and the last of all.
+/// The last schedule that asks of single graphs alone, the last without conditions, and the last of all.
 const LAST_NARROW: u64 = 200;
 
-const LAST: u64 = 300;
+const LAST_WIDE: u64 = 300;
 
-/// How many of both sorts are played again by a model that is wrong on purpose.
+const LAST: u64 = 360;
+
+/// How many of each sort are played again by a model that is wrong on purpose.
 const WRONG_SCHEDULES: u64 = 4;
+
+/// The same of those with conditions.
+const WRONG_ON_CONDITION: u64 = 12;
 
 const LIES: [Lie; 6] = [
     Lie::NewestPinAlone,
@@ -37,15 +42,24 @@ const LIES: [Lie; 6] = [
 /// What it is told wrongly where all graphs are read too.
 const WIDE_LIES: [Lie; 3] = [Lie::ReadsMoveOn, Lie::AllNeedNothing, Lie::BareNames];
 
-/// Plays a schedule on a store, beside a plain one that holds as much.
+/// What it is told wrongly where some writes have conditions.
+const CONDITION_LIES: [Lie; 4] = [
+    Lie::NeverLate,
+    Lie::LateByOpen,
+    Lie::DeletesForgotten,
+    Lie::LateCounts,
+];
+
+/// Plays a schedule on a store, beside a plain one that holds as much and begins after the same commit.
 fn play_on(
     alloc: Global,
     limits: Limits,
+    start: u64,
     play: &mut Play,
     store: &mut Played,
     totals: &mut Totals,
 ) -> Result<(), Stop> {
-    let mut plain = Played::plain(alloc, limits)?;
+    let mut plain = Played::plain(alloc, limits, start)?;
     let done = play.play(store, &mut plain, totals);
     drop(plain);
     done
@@ -55,22 +69,29 @@ fn play_on(
 fn play(alloc: Global, number: u64, lie: Lie, totals: &mut Totals) -> Result<(), Stop> {
     let is_small = number % 4 == 3;
     let limits = if is_small { SMALL } else { WHOLE };
+    let start = start_of(number);
     let mut store = if is_small {
-        Played::small(alloc)?
+        Played::small(alloc, start)?
     } else {
-        Played::whole(alloc)?
+        Played::whole(alloc, start)?
     };
     let mut play = Play::new(alloc, number, limits, lie);
-    let done = play_on(alloc, limits, &mut play, &mut store, totals);
+    let done = play_on(alloc, limits, start, &mut play, &mut store, totals);
     drop(store);
     done
 }
 
-/// Plays schedules after this one with a model that is wrong, and prints what is found first, and in how many.
-fn play_wrong<W: Write>(alloc: Global, before: u64, lie: Lie, out: &mut W) -> io::Result<()> {
+/// Plays so many schedules after this one with a model that is wrong, and prints what is found first, and in how many.
+fn play_wrong<W: Write>(
+    alloc: Global,
+    before: u64,
+    most: u64,
+    lie: Lie,
+    out: &mut W,
+) -> io::Result<()> {
     let mut totals = Totals::new();
     let mut count = 0u64;
-    for place in 1..=WRONG_SCHEDULES {
+    for place in 1..=most {
         let number = before.saturating_add(place);
         if let Err(stop) = play(alloc, number, lie, &mut totals) {
             if count == 0 {
@@ -82,7 +103,7 @@ fn play_wrong<W: Write>(alloc: Global, before: u64, lie: Lie, out: &mut W) -> io
     }
     writeln!(
         out,
-        "wrong on purpose, {}: found in {count} of {WRONG_SCHEDULES} schedules",
+        "wrong on purpose, {}: found in {count} of {most} schedules",
         lie.text(),
     )
 }
@@ -110,8 +131,8 @@ fn play_lines(lines: &Lines, mut store: Played) -> Result<(), Stop> {
 
 /// Plays one beside a plain store and a model. In an exact run each commit gives a graph a tree of its own.
 fn play_judged(alloc: Global, lines: &Lines, is_exact: bool) -> Result<(), Stop> {
-    let mut judge = Judge::new(alloc, is_exact, WHOLE, Lie::Nothing);
-    let mut store = Played::whole(alloc)?;
+    let mut judge = Judge::new(alloc, is_exact, 0, WHOLE, Lie::Nothing);
+    let mut store = Played::whole(alloc, 0)?;
     let done = play_judged_on(alloc, lines, &mut judge, &mut store);
     drop(store);
     done
@@ -123,7 +144,7 @@ fn play_judged_on(
     judge: &mut Judge,
     store: &mut Played,
 ) -> Result<(), Stop> {
-    let mut plain = Played::plain(alloc, WHOLE)?;
+    let mut plain = Played::plain(alloc, WHOLE, 0)?;
     let done = lines.play_judged(judge, store, &mut plain);
     drop(plain);
     done
@@ -143,6 +164,10 @@ fn play_two_versions(alloc: Global) -> Result<(), Stop> {
 
 fn play_without_lines(alloc: Global) -> Result<(), Stop> {
     play_judged(alloc, &without_lines(alloc)?, false)
+}
+
+fn play_on_condition(alloc: Global) -> Result<(), Stop> {
+    play_judged(alloc, &on_condition(alloc)?, false)
 }
 
 /// Plays that of all seats beside a plain store.
@@ -169,7 +194,7 @@ fn play_again(lines: &Lines, mut store: Played) -> Result<(), Stop> {
 }
 
 fn play_large(alloc: Global) -> Result<(), Stop> {
-    play_lines(&large_lines(alloc)?, Played::whole(alloc)?)
+    play_lines(&large_lines(alloc)?, Played::whole(alloc, 0)?)
 }
 
 fn play_last_node(alloc: Global) -> Result<(), Stop> {
@@ -210,39 +235,50 @@ fn play_fixed<W: Write>(alloc: Global, out: &mut W) -> io::Result<()> {
     print_fixed("reads of two versions of all graphs", two, out)?;
     let without = play_without_lines(alloc);
     print_fixed("graphs without lines", without, out)?;
+    let conditions = play_on_condition(alloc);
+    print_fixed("writes on condition", conditions, out)?;
     print_fixed("a version for each of 512 seats", play_seats(alloc), out)
 }
 
-/// Plays the worked runs of reads of all graphs where memory may be refused.
+/// Plays the worked runs of reads of all graphs, and that of writes on condition, where memory may be refused.
 fn play_refused<W: Write>(alloc: Global, out: &mut W) -> io::Result<()> {
     let beside = play_beside_again(alloc);
     print_fixed("a read of all graphs beside writes", beside, out)?;
     let two = play_two_again(alloc);
     print_fixed("reads of two versions of all graphs", two, out)?;
-    print_fixed("graphs without lines", play_without_again(alloc), out)
+    print_fixed("graphs without lines", play_without_again(alloc), out)?;
+    print_fixed("writes on condition", play_on_condition_again(alloc), out)
 }
 
 fn play_beside_again(alloc: Global) -> Result<(), Stop> {
-    play_again(&beside_writes(alloc)?, Played::whole(alloc)?)
+    play_again(&beside_writes(alloc)?, Played::whole(alloc, 0)?)
 }
 
 fn play_two_again(alloc: Global) -> Result<(), Stop> {
-    play_again(&two_versions(alloc)?, Played::whole(alloc)?)
+    play_again(&two_versions(alloc)?, Played::whole(alloc, 0)?)
 }
 
 fn play_without_again(alloc: Global) -> Result<(), Stop> {
-    play_again(&without_lines(alloc)?, Played::whole(alloc)?)
+    play_again(&without_lines(alloc)?, Played::whole(alloc, 0)?)
+}
+
+fn play_on_condition_again(alloc: Global) -> Result<(), Stop> {
+    play_again(&on_condition(alloc)?, Played::whole(alloc, 0)?)
 }
 
 fn play_all<W: Write>(alloc: Global, out: &mut W) -> io::Result<()> {
     for lie in &LIES {
-        play_wrong(alloc, 0, *lie, out)?;
+        play_wrong(alloc, 0, WRONG_SCHEDULES, *lie, out)?;
     }
     play_drawn(alloc, 1, LAST_NARROW, out)?;
     for lie in &WIDE_LIES {
-        play_wrong(alloc, LAST_NARROW, *lie, out)?;
+        play_wrong(alloc, LAST_NARROW, WRONG_SCHEDULES, *lie, out)?;
     }
-    play_drawn(alloc, LAST_NARROW.saturating_add(1), LAST, out)?;
+    play_drawn(alloc, LAST_NARROW.saturating_add(1), LAST_WIDE, out)?;
+    for lie in &CONDITION_LIES {
+        play_wrong(alloc, LAST_WIDE, WRONG_ON_CONDITION, *lie, out)?;
+    }
+    play_drawn(alloc, LAST_WIDE.saturating_add(1), LAST, out)?;
     play_fixed(alloc, out)
 }
 

@@ -1,9 +1,12 @@
 //! The stores that schedules are played on, of four seats or of all that there may be.
+ghost use Rattle.std.specs.Prelude.{◌≤◌};
+ghost use Rattle.gs_model.specs.Limits.{last_number};
+
 use gs_core::{MAX_NAMES, MAX_TRIPLES, PlainStore, Store};
 use gs_drawn_events::BASE;
 use gs_drawn_schedules::{Counts, Subject};
 use gs_event::{Answer, Event, Limits};
-use gs_model::Refusal;
+use gs_model::{LAST_NUMBER, Refusal};
 use gs_tree_store::{Storage, TreeStore};
 use std::alloc::Global;
 
@@ -19,6 +22,17 @@ pub const SMALL: Limits = Limits {
     names: 3,
 };
 
+/// This number, or the last where it is above that.
+fn within(start: u64) -> u64
+    ensures { result ≤ last_number }
+{
+    if start < LAST_NUMBER {
+        start
+    } else {
+        LAST_NUMBER
+    }
+}
+
 /// A store.
 #[derive(Drop)]
 pub enum Played {
@@ -31,9 +45,10 @@ pub enum Played {
 }
 
 impl Played {
-    /// A new store as programs use it.
-    pub fn whole(alloc: Global) -> Result<Played, Refusal> {
-        Ok(Played::Whole(Store::new(alloc, 4, BASE)?))
+    /// A new store as programs use it, after the commit of this number.
+    pub fn whole(alloc: Global, start: u64) -> Result<Played, Refusal> {
+        let store = Store::starting_at(alloc, 4, BASE, within(start), 0)?;
+        Ok(Played::Whole(store))
     }
 
     /// The same of 512 seats.
@@ -53,16 +68,16 @@ impl Played {
         Ok(Played::Whole(store))
     }
 
-    /// A new store that holds little.
-    pub fn small(alloc: Global) -> Result<Played, Refusal> {
+    /// A new store that holds little, after the commit of this number.
+    pub fn small(alloc: Global, start: u64) -> Result<Played, Refusal> {
         let storage = Storage::of_seed(7);
-        let store = TreeStore::starting_at(alloc, 4, BASE, SMALL, 0, 0, storage)?;
+        let store = TreeStore::starting_at(alloc, 4, BASE, SMALL, within(start), 0, storage)?;
         Ok(Played::Small(store))
     }
 
-    /// A new plain store that holds as much as this.
-    pub fn plain(alloc: Global, limits: Limits) -> Result<Played, Refusal> {
-        let store = PlainStore::starting_at(alloc, 4, BASE, limits, 0, 0)?;
+    /// A new plain store that holds as much as this, after the commit of this number.
+    pub fn plain(alloc: Global, limits: Limits, start: u64) -> Result<Played, Refusal> {
+        let store = PlainStore::starting_at(alloc, 4, BASE, limits, within(start), 0)?;
         Ok(Played::Plain(store))
     }
 

@@ -27,12 +27,12 @@ pub fn said_words(alloc: Global, said: &Said) -> Result<String, AllocError> {
     match said {
         Said::Opened(number) => format!(in alloc; "opened {number}"),
         Said::Staged => String::from_str(alloc, "staged"),
-        Said::Status(status) => format!(in alloc; "status {status}"),
-        Said::Made(request, number) => {
+        Said::Status(status, commit) => format!(in alloc; "status {status}, commit {commit}"),
+        Said::Made(request, number, commit) => {
             let name = made_name(alloc, *request, *number)?;
-            format!(in alloc; "status 201 {name}")
+            format!(in alloc; "status 201 {name}, commit {commit}")
         }
-        Said::Pinned(status) => format!(in alloc; "pinned {status}"),
+        Said::Pinned(status, commit) => format!(in alloc; "pinned {status}, commit {commit}"),
         Said::Lines(triples, is_end) => {
             lines_words(alloc, lines_of(alloc, *triples)?.as_slice(), *is_end)
         }
@@ -53,12 +53,14 @@ pub fn answer_words(alloc: Global, answer: &Answer) -> Result<String, AllocError
     match answer {
         Answer::Opened(number) => format!(in alloc; "opened {number}"),
         Answer::Staged => String::from_str(alloc, "staged"),
-        Answer::Status(status, None) => format!(in alloc; "status {status}"),
-        Answer::Status(status, Some(name)) => {
-            let text = str::from_utf8(name.as_bytes()).unwrap_or("no text");
-            format!(in alloc; "status {status} {text}")
+        Answer::Status(status, None, commit) => {
+            format!(in alloc; "status {status}, commit {commit}")
         }
-        Answer::Pinned(status) => format!(in alloc; "pinned {status}"),
+        Answer::Status(status, Some(name), commit) => {
+            let text = str::from_utf8(name.as_bytes()).unwrap_or("no text");
+            format!(in alloc; "status {status} {text}, commit {commit}")
+        }
+        Answer::Pinned(status, commit) => format!(in alloc; "pinned {status}, commit {commit}"),
         Answer::Lines(lines, is_end) => lines_words(alloc, lines.as_slice(), *is_end),
         Answer::Cancelled => String::from_str(alloc, "cancelled"),
         Answer::Reclaimed(freed, left) => {
@@ -85,8 +87,10 @@ pub fn is_same(a: &Answer, b: &Answer) -> bool {
     match (a, b) {
         (Answer::Opened(a), Answer::Opened(b)) => a == b,
         (Answer::Staged, Answer::Staged) => true,
-        (Answer::Status(a, name), Answer::Status(b, other)) => a == b && is_same_name(name, other),
-        (Answer::Pinned(a), Answer::Pinned(b)) => a == b,
+        (Answer::Status(a, name, commit), Answer::Status(b, other, number)) => {
+            a == b && commit == number && is_same_name(name, other)
+        }
+        (Answer::Pinned(a, commit), Answer::Pinned(b, number)) => a == b && commit == number,
         (Answer::Lines(lines, is_end), Answer::Lines(others, ends)) => {
             is_end == ends && lines.as_slice() == others.as_slice()
         }
@@ -112,11 +116,11 @@ pub fn is_said(alloc: Global, answer: &Answer, said: &Said) -> Result<bool, Allo
     match (answer, said) {
         (Answer::Opened(a), Said::Opened(b)) => Ok(a == b),
         (Answer::Staged, Said::Staged) => Ok(true),
-        (Answer::Status(a, None), Said::Status(b)) => Ok(a == b),
-        (Answer::Status(201, Some(name)), Said::Made(request, number)) => {
-            is_named(alloc, name, *request, *number)
+        (Answer::Status(a, None, commit), Said::Status(b, own)) => Ok(a == b && commit == own),
+        (Answer::Status(201, Some(name), commit), Said::Made(request, number, own)) => {
+            Ok(commit == own && is_named(alloc, name, *request, *number)?)
         }
-        (Answer::Pinned(a), Said::Pinned(b)) => Ok(a == b),
+        (Answer::Pinned(a, commit), Said::Pinned(b, own)) => Ok(a == b && commit == own),
         (Answer::Lines(lines, is_end), Said::Lines(triples, ends)) => {
             let wanted = lines_of(alloc, *triples)?;
             Ok(is_end == ends && lines.as_slice() == wanted.as_slice())

@@ -15,21 +15,24 @@ pub struct Books {
     lie: Lie,
     most: Limits,
     request: u64,
-    commit: u64,
+    /// The number of the last commit, and of that before the first.
+    pub commit: u64,
+    start: u64,
     pub graphs: Graphs,
     versions: Versions,
 }
 
 impl Books {
-    /// Those of a store without graphs.
-    pub fn new(alloc: Global, most: Limits, lie: Lie) -> Books {
+    /// Those of a store without graphs, whose last commit has this number.
+    pub fn new(alloc: Global, start: u64, most: Limits, lie: Lie) -> Books {
         Books {
             alloc,
             lie,
             most,
             request: 0,
-            commit: 0,
-            graphs: Graphs::new(alloc, lie == Lie::BareNames),
+            commit: start,
+            start,
+            graphs: Graphs::new(alloc, start, lie == Lie::BareNames),
             versions: Versions::new(alloc),
         }
     }
@@ -72,6 +75,64 @@ impl Books {
         self.request
     }
 
+    /// The number of the next commit.
+    fn next_commit(&self) -> u64 {
+        self.commit.saturating_add(1)
+    }
+
+    /// A status that is said with the number of the last commit.
+    fn said(&self, status: u16) -> Said {
+        Said::Status(status, self.commit)
+    }
+
+    /// The status of a write, with the number of its own commit where it takes effect.
+    fn said_of_write(&self, status: u16) -> Said {
+        if status == 507 {
+            return self.said(status);
+        }
+        Said::Status(status, self.next_commit())
+    }
+
+    /// The commit number of the last write on a graph.
+    fn last_write(&self, place: Place) -> u64 {
+        if self.lie == Lie::DeletesForgotten && self.graphs.triples(place).is_none() {
+            return self.start;
+        }
+        self.graphs.last_write(place)
+    }
+
+    /// Whether a write comes too late: its graph was written since the commit of this number.
+    fn is_late(&self, place: Place, since: Option<u64>) -> bool {
+        match since {
+            None => false,
+            Some(commit) => self.lie != Lie::NeverLate && commit < self.last_write(place),
+        }
+    }
+
+    /// The condition that is asked at the commit.
+    pub fn kept_since(&self, place: Place, since: Option<u64>) -> Option<u64> {
+        if self.lie == Lie::LateByOpen && !self.is_late(place, since) {
+            return None;
+        }
+        since
+    }
+
+    /// The same of an upload: that of a new graph has none.
+    pub fn kept_since_of(&self, kind: Kind, since: Option<u64>) -> Option<u64> {
+        match kind {
+            Kind::Put(place) | Kind::Post(place) => self.kept_since(place, since),
+            Kind::New => None,
+        }
+    }
+
+    /// A write comes too late, which changes nothing.
+    fn late(&mut self, place: Place) -> Outcome {
+        if self.lie == Lie::LateCounts {
+            self.commit = self.commit.saturating_add(1);
+        }
+        Outcome::of(Said::Status(412, self.last_write(place)))
+    }
+
     /// Whether there is such a graph. All graphs together are always there.
     fn is_there(&self, scope: Scope) -> bool {
         match scope {
@@ -83,20 +144,20 @@ impl Books {
     /// A question is asked.
     pub fn head(&self, scope: Scope) -> Turn {
         let status = if self.is_there(scope) { 200 } else { 404 };
-        Turn::to(Phase::Idle, Said::Status(status))
+        Turn::to(Phase::Idle, self.said(status))
     }
 
     /// A read begins.
     pub fn pin(&self, scope: Scope) -> Turn {
         if !self.is_there(scope) {
-            return Turn::to(Phase::Idle, Said::Pinned(404));
+            return Turn::to(Phase::Idle, Said::Pinned(404, self.commit));
         }
         let read = Read {
             scope,
             given: 0,
             pin: self.commit,
         };
-        Turn::to(Phase::Reading(read), Said::Pinned(200))
+        Turn::to(Phase::Reading(read), Said::Pinned(200, self.commit))
     }
 
     /// Whether a read needs the versions at its pin.
@@ -115,9 +176,16 @@ impl Books {
     }
 
     /// A graph is taken away.
-    pub fn delete(&mut self, place: Place) -> Result<Turn, AllocError> {
+    pub fn delete(&mut self, place: Place, since: Option<u64>) -> Result<Turn, AllocError> {
         if self.graphs.triples(place).is_none() {
-            return Ok(Turn::to(Phase::Idle, Said::Status(404)));
+            return Ok(Turn::to(Phase::Idle, self.said(404)));
+        }
+        if self.is_late(place, since) {
+            let outcome = self.late(place);
+            return Ok(Turn {
+                phase: Phase::Idle,
+                outcome,
+            });
         }
         self.end_version(place)?;
         let left = match place {
@@ -125,7 +193,7 @@ impl Books {
             _ => None,
         };
         self.set_graph(place, left)?;
-        Ok(Turn::to(Phase::Idle, Said::Status(204)))
+        Ok(Turn::to(Phase::Idle, self.said(204)))
     }
 
     /// Triples are staged.
@@ -145,7 +213,7 @@ impl Books {
 
     /// Gives a graph these triples, or takes it away, by the next commit.
     fn set_graph(&mut self, place: Place, triples: Option<Set>) -> Result<(), AllocError> {
-        self.commit = self.commit.saturating_add(1);
+        self.commit = self.next_commit();
         self.graphs.set(place, triples, self.commit)
     }
 
@@ -155,7 +223,7 @@ impl Books {
         let Some(triples) = graph.triples else {
             return Ok(());
         };
-        let death = self.commit.saturating_add(1);
+        let death = self.next_commit();
         let records = u64::from(graph.has_record());
         let size = triples.count().saturating_add(records);
         self.versions.end(graph.birth, death, size)
@@ -180,15 +248,24 @@ impl Books {
     /// An upload is committed.
     pub fn commit_upload(&mut self, upload: Upload) -> Result<Turn, AllocError> {
         match upload.kind {
+            Kind::Put(place) | Kind::Post(place) if self.is_late(place, upload.since) => {
+                Ok(self.late_upload(place, upload))
+            }
             Kind::Put(place) => self.commit_put(place, upload.triples),
             Kind::Post(place) => self.commit_post(place, upload.triples),
             Kind::New => self.commit_new(upload),
         }
     }
 
+    /// An upload comes too late, and is given up.
+    fn late_upload(&mut self, place: Place, upload: Upload) -> Turn {
+        let outcome = self.late(place);
+        self.give_up(outcome, upload.triples.count())
+    }
+
     fn commit_put(&mut self, place: Place, triples: Set) -> Result<Turn, AllocError> {
         let status = self.status(place, triples);
-        let outcome = Outcome::of(Said::Status(status));
+        let outcome = Outcome::of(self.said_of_write(status));
         if status == 507 {
             return Ok(self.give_up(outcome, triples.count()));
         }
@@ -202,7 +279,7 @@ impl Books {
         let old = self.graphs.triples(place).unwrap_or(Set::none());
         let both = old.with(triples);
         let status = self.status(place, both);
-        let said = Said::Status(status);
+        let said = self.said_of_write(status);
         if status == 507 {
             let outcome = Outcome::given_back(said, triples.count());
             return Ok(self.give_up(outcome, 0));
@@ -228,18 +305,27 @@ impl Books {
         let place = Place::Made(upload.request, number);
         let staged = upload.triples.count();
         if self.status(place, upload.triples) == 507 {
-            return Ok(self.give_up(Outcome::of(Said::Status(507)), staged));
+            return Ok(self.give_up(Outcome::of(self.said(507)), staged));
         }
-        let said = Said::Made(upload.request, number);
+        let said = Said::Made(upload.request, number, self.next_commit());
         let outcome = Outcome::after_change(said, staged);
         self.write(place, upload.triples, outcome)
     }
 
     /// Operations are done on a graph.
-    pub fn commit_patch(&mut self, place: Place, edits: &[Edit]) -> Result<Turn, AllocError> {
+    pub fn commit_patch(
+        &mut self,
+        place: Place,
+        since: Option<u64>,
+        edits: &[Edit],
+    ) -> Result<Turn, AllocError> {
         let Some(mut triples) = self.graphs.triples(place) else {
-            return Ok(self.give_up(Outcome::of(Said::Status(404)), 0));
+            return Ok(self.give_up(Outcome::of(self.said(404)), 0));
         };
+        if self.is_late(place, since) {
+            let outcome = self.late(place);
+            return Ok(self.give_up(outcome, 0));
+        }
         let mut changed = 0u64;
         for edit in edits {
             let after = edited(triples, edit);
@@ -249,9 +335,9 @@ impl Books {
             triples = after;
         }
         if self.status(place, triples) == 507 {
-            return Ok(self.give_up(Outcome::of(Said::Status(507)), 0));
+            return Ok(self.give_up(Outcome::of(self.said(507)), 0));
         }
-        let outcome = Outcome::after_change(Said::Status(204), changed);
+        let outcome = Outcome::after_change(self.said_of_write(204), changed);
         self.write(place, triples, outcome)
     }
 

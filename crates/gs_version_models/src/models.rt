@@ -18,10 +18,10 @@ pub struct Model {
 }
 
 impl Model {
-    /// A store without graphs.
-    pub fn new(alloc: Global, most: Limits, lie: Lie) -> Model {
+    /// A store without graphs, whose last commit has this number.
+    pub fn new(alloc: Global, start: u64, most: Limits, lie: Lie) -> Model {
         Model {
-            books: Books::new(alloc, most, lie),
+            books: Books::new(alloc, start, most, lie),
             phases: [Phase::Idle; SEATS],
         }
     }
@@ -37,6 +37,11 @@ impl Model {
     /// The names that the store made up, and whose graphs are there.
     pub fn made(&self, alloc: Global) -> Result<Vec<Place>, AllocError> {
         self.books.graphs.made(alloc)
+    }
+
+    /// The number of the last commit.
+    pub fn commit(&self) -> u64 {
+        self.books.commit
     }
 
     /// How many triples all graphs have.
@@ -98,7 +103,7 @@ impl Model {
         let turn = match phase {
             Phase::Idle => self.begin(ask)?,
             Phase::Writing(upload) => self.write(upload, ask)?,
-            Phase::Patching(target) => self.patch(target, ask)?,
+            Phase::Patching(target, since) => self.patch(target, since, ask)?,
             Phase::Reading(read) => self.read(read, ask)?,
         };
         let Turn { phase, outcome } = turn;
@@ -111,20 +116,22 @@ impl Model {
     /// An idle seat.
     fn begin(&mut self, ask: &Ask) -> Result<Turn, AllocError> {
         match ask {
-            Ask::Open(kind) => {
+            Ask::Open(kind, since) => {
                 let request = self.books.next_request();
                 let upload = Upload {
                     kind: *kind,
+                    since: self.books.kept_since_of(*kind, *since),
                     request,
                     triples: Set::none(),
                 };
                 Ok(Turn::opened(Phase::Writing(upload), request))
             }
-            Ask::OpenPatch(place) => {
+            Ask::OpenPatch(place, since) => {
                 let request = self.books.next_request();
-                Ok(Turn::opened(Phase::Patching(*place), request))
+                let kept = self.books.kept_since(*place, *since);
+                Ok(Turn::opened(Phase::Patching(*place, kept), request))
             }
-            Ask::Delete(place) => self.books.delete(*place),
+            Ask::Delete(place, since) => self.books.delete(*place, *since),
             Ask::Head(scope) => Ok(self.books.head(*scope)),
             Ask::Pin(scope) => Ok(self.books.pin(*scope)),
             _ => Ok(Turn::refused(Phase::Idle)),
@@ -142,11 +149,11 @@ impl Model {
     }
 
     /// A seat with a patch.
-    fn patch(&mut self, place: Place, ask: &Ask) -> Result<Turn, AllocError> {
+    fn patch(&mut self, place: Place, since: Option<u64>, ask: &Ask) -> Result<Turn, AllocError> {
         match ask {
-            Ask::Patch(edits) => self.books.commit_patch(place, edits.as_slice()),
+            Ask::Patch(edits) => self.books.commit_patch(place, since, edits.as_slice()),
             Ask::Cancel => Ok(self.books.cancel(0)),
-            _ => Ok(Turn::refused(Phase::Patching(place))),
+            _ => Ok(Turn::refused(Phase::Patching(place, since))),
         }
     }
 

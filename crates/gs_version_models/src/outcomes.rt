@@ -14,10 +14,13 @@ pub const MOST_FOR_NEW: u64 = 257;
 pub enum Said {
     Opened(u64),
     Staged,
-    Status(u16),
-    /// A graph was made under the name that is made up of this request and this number.
-    Made(u64, u64),
-    Pinned(u16),
+    /// The number is that of the write's own commit, with 412 that of the last write on its graph, and else that
+    /// of the last commit.
+    Status(u16, u64),
+    /// A graph was made under the name that is made up of this request and this number, by this commit.
+    Made(u64, u64, u64),
+    /// The last commit has this number.
+    Pinned(u16, u64),
     /// The lines of these triples, and whether none are left after them.
     Lines(Set, bool),
     /// The lines of these sections, and the same.

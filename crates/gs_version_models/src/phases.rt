@@ -8,6 +8,8 @@ use gs_model::Refusal;
 #[derive(Clone, Copy, Drop)]
 pub struct Upload {
     pub kind: Kind,
+    /// The commit number since which its graph must not have been written, if there is one.
+    pub since: Option<u64>,
     pub request: u64,
     pub triples: Set,
 }
@@ -27,7 +29,8 @@ pub struct Read {
 pub enum Phase {
     Idle,
     Writing(Upload),
-    Patching(Place),
+    /// A patch, with such a number.
+    Patching(Place, Option<u64>),
     Reading(Read),
 }
 
@@ -37,7 +40,7 @@ impl Phase {
     pub fn held(&self) -> u64 {
         match self {
             Phase::Writing(upload) => upload.triples.count().saturating_add(1),
-            Phase::Patching(_) => 1,
+            Phase::Patching(_, _) => 1,
             _ => 0,
         }
     }

@@ -20,6 +20,14 @@ pub enum Lie {
     AllNeedNothing,
     /// Names stand in order without their closing brackets.
     BareNames,
+    /// No write comes too late.
+    NeverLate,
+    /// A condition that holds at the Open is not asked again.
+    LateByOpen,
+    /// A name that is missing was never written.
+    DeletesForgotten,
+    /// A write that comes too late takes a commit number.
+    LateCounts,
 }
 
 impl Lie {
@@ -35,6 +43,10 @@ impl Lie {
             Lie::BeginsLate => "a version begins after its first commit",
             Lie::AllNeedNothing => "a read of all graphs needs no version",
             Lie::BareNames => "names are in order without brackets",
+            Lie::NeverLate => "no write comes too late",
+            Lie::LateByOpen => "a condition is asked at the Open alone",
+            Lie::DeletesForgotten => "a name that is missing was never written",
+            Lie::LateCounts => "a write that comes too late takes a commit number",
         }
     }
 }

@@ -28,7 +28,7 @@ struct Outcome {
 
 /// The graphs after a write, and its status.
 #[derive(Clone, Copy, Drop)]
-pub struct Effect {
+pub struct Change {
     pub dataset: Dataset,
     pub status: u16,
 }
@@ -133,14 +133,14 @@ impl Dataset {
     }
 
     /// What a request's write makes of these graphs.
-    pub fn after(&self, rules: &Rules, request: &Request, write: Write) -> Effect {
+    pub fn after(&self, rules: &Rules, request: &Request, write: Write) -> Change {
         let number = request.graph;
         let outcome = outcome_of(rules, write, self.graph(number), number == DEFAULT);
         let mut dataset = *self;
         if let Some(graph) = dataset.graphs.get_mut(number) {
             *graph = outcome.graph;
         }
-        Effect {
+        Change {
             dataset,
             status: outcome.status,
         }

@@ -24,15 +24,16 @@ impl Reply {
         }
     }
 
-    /// A reply without a body.
+    /// A reply without a body, with a commit number where the store has decided it.
     pub fn plain(
         alloc: Global,
         status: u16,
         allow: &str,
+        commit: Option<u64>,
         closes: bool,
     ) -> Result<Reply, AllocError> {
         let mut text = Vec::new(alloc);
-        push_reply(&mut text, status, allow, closes)?;
+        push_reply(&mut text, status, allow, commit, closes)?;
         Ok(Reply::of(status, text))
     }
 

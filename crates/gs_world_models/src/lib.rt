@@ -6,8 +6,10 @@ mod datasets;
 mod dues;
 mod replies;
 mod rules;
+mod states;
 
-pub use datasets::{Dataset, Effect, Shown};
+pub use datasets::{Dataset, Shown};
 pub use dues::{Due, Reply};
-pub use replies::{push_look, push_read, read_status, read_turns};
+pub use replies::{Showing, push_look, push_read, read_status, read_turns};
 pub use rules::{Lie, Rules};
+pub use states::{Asked, Effect, State};

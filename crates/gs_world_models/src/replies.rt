@@ -25,6 +25,7 @@ fn phrase(status: u16) -> &'static str {
         404 => "Not Found",
         405 => "Method Not Allowed",
         406 => "Not Acceptable",
+        412 => "Precondition Failed",
         413 => "Payload Too Large",
         415 => "Unsupported Media Type",
         422 => "Unprocessable Entity",
@@ -33,18 +34,24 @@ fn phrase(status: u16) -> &'static str {
     }
 }
 
-fn push_end(text: &mut Vec<u8>, closes: bool) -> Result<(), AllocError> {
+/// Adds the last fields and the end of a head.
+fn push_end(text: &mut Vec<u8>, commit: Option<u64>, closes: bool) -> Result<(), AllocError> {
+    if let Some(number) = commit {
+        write!(text, "Store-Commit: {number}\r\n").map_err(|_| AllocError)?;
+    }
     if closes {
         text.extend_from_slice(b"Connection: close\r\n")?;
     }
     text.extend_from_slice(b"\r\n")
 }
 
-/// Adds a reply without a body; `allow` is empty where it has no such field.
+/// Adds a reply without a body; `allow` is empty where it has no such field. It has a commit number where the store has
+/// decided its status.
 pub fn push_reply(
     text: &mut Vec<u8>,
     status: u16,
     allow: &str,
+    commit: Option<u64>,
     closes: bool,
 ) -> Result<(), AllocError> {
     write!(text, "HTTP/1.1 {status} {}\r\n", phrase(status)).map_err(|_| AllocError)?;
@@ -54,7 +61,7 @@ pub fn push_reply(
     if !allow.is_empty() {
         write!(text, "Allow: {allow}\r\n").map_err(|_| AllocError)?;
     }
-    push_end(text, closes)
+    push_end(text, commit, closes)
 }
 
 /// What the lines of a reply are.
@@ -140,35 +147,40 @@ fn push_lines(text: &mut Vec<u8>, rules: &Rules, lines: &[Vec<u8>]) -> Result<()
     text.extend_from_slice(b"0\r\n\r\n")
 }
 
+/// What a GET or a HEAD is answered by.
+#[derive(Clone, Copy, Drop)]
+pub struct Showing {
+    pub shown: Shown,
+    /// The number of the last commit before it.
+    pub commit: u64,
+    pub is_turtle: bool,
+    pub closes: bool,
+}
+
 /// Adds the reply to a HEAD: the head of a reply with lines, where something is there.
-pub fn push_look(
-    text: &mut Vec<u8>,
-    shown: Shown,
-    is_turtle: bool,
-    closes: bool,
-) -> Result<(), AllocError> {
+pub fn push_look(text: &mut Vec<u8>, showing: &Showing) -> Result<(), AllocError> {
+    let Showing {
+        shown,
+        commit,
+        is_turtle,
+        closes,
+    } = *showing;
     if shown == Shown::Missing {
-        return push_reply(text, 404, "", closes);
+        return push_reply(text, 404, "", Some(commit), closes);
     }
     let media = type_of(shown, is_turtle);
     write!(text, "HTTP/1.1 200 OK\r\nContent-Type: {media}\r\n").map_err(|_| AllocError)?;
     text.extend_from_slice(b"Transfer-Encoding: chunked\r\n")?;
-    push_end(text, closes)
+    push_end(text, Some(commit), closes)
 }
 
 /// Adds the reply to a GET.
-pub fn push_read(
-    text: &mut Vec<u8>,
-    rules: &Rules,
-    shown: Shown,
-    is_turtle: bool,
-    closes: bool,
-) -> Result<(), AllocError> {
-    push_look(text, shown, is_turtle, closes)?;
-    if shown == Shown::Missing {
+pub fn push_read(text: &mut Vec<u8>, rules: &Rules, showing: &Showing) -> Result<(), AllocError> {
+    push_look(text, showing)?;
+    if showing.shown == Shown::Missing {
         return Ok(());
     }
-    let lines = lines_of(rules, shown)?;
+    let lines = lines_of(rules, showing.shown)?;
     push_lines(text, rules, lines.as_slice())
 }
 

@@ -16,6 +16,10 @@ pub enum Lie {
     LinesHaveNoName,
     /// What one connection writes is taken for what the next one writes.
     NeighboursAnswer,
+    /// No write comes too late.
+    NeverLate,
+    /// A condition that is none is not read.
+    FaultyConditionsHold,
 }
 
 impl Lie {
@@ -29,6 +33,8 @@ impl Lie {
             Lie::FaultsRemove => "an upload with a fault removes its graph",
             Lie::LinesHaveNoName => "a read of all graphs names none",
             Lie::NeighboursAnswer => "a reply goes to the next connection",
+            Lie::NeverLate => "no write comes too late",
+            Lie::FaultyConditionsHold => "a condition that is none is not read",
         }
     }
 }

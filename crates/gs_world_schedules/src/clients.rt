@@ -3,7 +3,7 @@
 use crate::findings::Kind;
 use gs_drawn_requests::{Deed, Request, Write};
 use gs_world_models::{
-    Dataset, Due, Effect, Lie, Reply, Rules, push_look, push_read, read_status, read_turns,
+    Asked, Due, Lie, Reply, Rules, Showing, State, push_look, push_read, read_status, read_turns,
 };
 use std::alloc::{AllocError, Global};
 
@@ -13,14 +13,14 @@ pub struct Look {
     /// How many bytes of the connection had come.
     came: usize,
     /// The graphs before the turn.
-    before: Dataset,
-    after: Dataset,
+    before: State,
+    after: State,
 }
 
 /// A connection.
 #[derive(Drop)]
 pub struct Client {
-    requests: Vec<Request>,
+    requests: Vec<Asked>,
     /// How many of them were answered.
     answered: usize,
     /// How many bytes came to it.
@@ -53,8 +53,8 @@ impl Client {
     }
 
     /// A request is sent from now on.
-    pub fn send(&mut self, request: Request) -> Result<(), AllocError> {
-        self.requests.push(request).map_err(AllocError::from)
+    pub fn send(&mut self, asked: Asked) -> Result<(), AllocError> {
+        self.requests.push(asked).map_err(AllocError::from)
     }
 
     /// So many bytes were given to it.
@@ -75,12 +75,12 @@ impl Client {
     }
 
     /// The request that is next, once its head came.
-    fn pending(&self) -> Option<Request> {
+    fn pending(&self) -> Option<Asked> {
         if self.is_over {
             return None;
         }
         match self.requests.get(self.answered) {
-            Some(request) if request.head_end <= self.came => Some(*request),
+            Some(asked) if asked.request.head_end <= self.came => Some(*asked),
             _ => None,
         }
     }
@@ -104,7 +104,7 @@ impl Client {
     pub fn is_quiet(&self) -> bool {
         match self.pending() {
             None => true,
-            Some(request) => match request.deed {
+            Some(Asked { request, .. }) => match request.deed {
                 Deed::Denied(_, _) => false,
                 _ => !self.awaits_greeting(&request) && self.came < request.end,
             },
@@ -115,7 +115,7 @@ impl Client {
     pub fn is_uploading(&self) -> bool {
         match self.pending() {
             None => false,
-            Some(request) => {
+            Some(Asked { request, .. }) => {
                 let was_opened = self.is_greeted || !self.looks_after(request.head_end).is_empty();
                 request.opens() && was_opened && self.came < request.end
             }
@@ -124,33 +124,36 @@ impl Client {
 
     /// What the write of the request that is next would make of these graphs, where it has not come
     /// whole.
-    pub fn effect_of_cut(&self, rules: &Rules, now: &Dataset) -> Option<Dataset> {
-        let request = self.pending()?;
-        match request.deed {
-            Deed::Write(write) => Some(now.after(rules, &request, write).dataset),
+    pub fn effect_of_cut(&self, rules: &Rules, now: &State) -> Option<State> {
+        let asked = self.pending()?;
+        match asked.request.deed {
+            Deed::Write(write) => Some(now.after(rules, &asked, write).state),
             _ => None,
         }
     }
 
     /// What the graphs may be after its next turn, besides what they are.
-    pub fn effect(&self, rules: &Rules, now: &Dataset) -> Option<Dataset> {
-        let request = self.pending()?;
+    pub fn effect(&self, rules: &Rules, now: &State) -> Option<State> {
+        let asked = self.pending()?;
+        let request = asked.request;
         if self.awaits_greeting(&request) || self.came < request.end {
             return None;
         }
         match request.deed {
-            Deed::Write(write) => Some(now.after(rules, &request, write).dataset),
+            Deed::Write(write) => Some(now.after(rules, &asked, write).state),
             _ => None,
         }
     }
 
     /// What its next turn writes.
-    pub fn due(&self, rules: &Rules, now: &Dataset) -> Result<Due, AllocError> {
-        let Some(request) = self.pending() else {
+    pub fn due(&self, rules: &Rules, now: &State) -> Result<Due, AllocError> {
+        let Some(asked) = self.pending() else {
             return Ok(Due::Nothing);
         };
+        let request = asked.request;
         if let Deed::Denied(status, allow) = request.deed {
-            return Ok(Due::Must(Reply::plain(rules.alloc, status, allow, request.closes)?));
+            let reply = Reply::plain(rules.alloc, status, allow, None, request.closes)?;
+            return Ok(Due::Must(reply));
         }
         if self.awaits_greeting(&request) {
             return self.due_greeting(rules, &request);
@@ -163,11 +166,12 @@ impl Client {
         match request.deed {
             Deed::Read => due_read(rules, &request, first, last, looks.len(), now),
             Deed::Look => due_look(rules, &request, first),
-            Deed::Write(write) => due_write(rules, &request, write, last),
+            Deed::Write(write) => due_write(rules, &asked, write, last),
             Deed::Fault(status) => Ok(Due::May(Reply::plain(
                 rules.alloc,
                 status,
                 "",
+                None,
                 request.closes,
             )?)),
             Deed::Denied(_, _) => Ok(Due::Nothing),
@@ -183,7 +187,7 @@ impl Client {
     }
 
     /// A turn wrote nothing.
-    pub fn rest(&mut self, before: Dataset, after: Dataset) -> Result<(), AllocError> {
+    pub fn rest(&mut self, before: State, after: State) -> Result<(), AllocError> {
         let look = Look {
             came: self.came,
             before,
@@ -193,71 +197,79 @@ impl Client {
     }
 
     /// A turn wrote what was due. Answers the request that it answers.
-    pub fn take(&mut self, reply: &Reply) -> Result<Option<Request>, AllocError> {
+    pub fn take(&mut self, reply: &Reply) -> Result<Option<Asked>, AllocError> {
         self.said.extend_from_slice(reply.text.as_slice())?;
         self.looks.clear();
         if reply.is_greeting() {
             self.is_greeted = true;
             return Ok(None);
         }
-        let request = self.requests.get(self.answered).copied();
+        let asked = self.requests.get(self.answered).copied();
         self.answered = self.answered.saturating_add(1);
         self.is_greeted = false;
-        if let Some(answered) = request {
-            self.is_over = answered.closes;
+        if let Some(answered) = asked {
+            self.is_over = answered.request.closes;
         }
-        Ok(request)
+        Ok(asked)
     }
 }
 
 /// A GET writes at once, in the turn after its last piece, the lines that its graph, or all graphs, had at
-/// the first turn.
+/// the first turn, and the number of the last commit then.
 fn due_read(
     rules: &Rules,
     request: &Request,
     first: &Look,
     last: &Look,
     turns: usize,
-    now: &Dataset,
+    now: &State,
 ) -> Result<Due, AllocError> {
-    let pinned = first.before.shown(request);
+    let pinned = first.before.dataset.shown(request);
     if turns < read_turns(rules, pinned) {
         return Ok(Due::Nothing);
     }
     let shown = match rules.lie {
-        Lie::ReadsMoveOn => last.after.shown(request),
+        Lie::ReadsMoveOn => last.after.dataset.shown(request),
         _ => pinned,
     };
     let mut text = Vec::new(rules.alloc);
-    push_read(&mut text, rules, shown, request.is_turtle, request.closes)?;
+    let showing = Showing {
+        shown,
+        commit: first.before.commit,
+        is_turtle: request.is_turtle,
+        closes: request.closes,
+    };
+    push_read(&mut text, rules, &showing)?;
     Ok(Due::Must(Reply {
         status: read_status(shown),
         text,
-        spans_write: first.before != *now,
-        is_stale: pinned != now.shown(request),
+        spans_write: first.before.dataset != now.dataset,
+        is_stale: pinned != now.dataset.shown(request),
     }))
 }
 
 fn due_look(rules: &Rules, request: &Request, first: &Look) -> Result<Due, AllocError> {
-    let shown = first.before.shown(request);
+    let shown = first.before.dataset.shown(request);
     let mut text = Vec::new(rules.alloc);
-    push_look(&mut text, shown, request.is_turtle, request.closes)?;
+    let showing = Showing {
+        shown,
+        commit: first.before.commit,
+        is_turtle: request.is_turtle,
+        closes: request.closes,
+    };
+    push_look(&mut text, &showing)?;
     Ok(Due::Must(Reply::of(read_status(shown), text)))
 }
 
-/// The reply to a write comes in the turn after the one that took effect. Where that changes nothing
-/// it may have been any.
-fn due_write(
-    rules: &Rules,
-    request: &Request,
-    write: Write,
-    last: &Look,
-) -> Result<Due, AllocError> {
-    let effect: Effect = last.before.after(rules, request, write);
-    if effect.dataset != last.after {
+/// The reply to a write comes in the turn after the one that took effect, which took a commit number though it may have left all
+/// graphs as they were. One that is refused may have been refused in any turn.
+fn due_write(rules: &Rules, asked: &Asked, write: Write, last: &Look) -> Result<Due, AllocError> {
+    let effect = last.before.after(rules, asked, write);
+    if effect.state != last.after {
         return Ok(Due::Nothing);
     }
-    let reply = Reply::plain(rules.alloc, effect.status, "", request.closes)?;
+    let closes = asked.request.closes;
+    let reply = Reply::plain(rules.alloc, effect.status, "", Some(effect.number), closes)?;
     if matches!(write, Write::Remove) || last.before != last.after {
         Ok(Due::Must(reply))
     } else {

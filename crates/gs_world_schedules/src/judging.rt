@@ -4,9 +4,9 @@ use crate::findings::{Kind, Moment, Stop};
 use crate::totals::{Happening, Totals};
 use crate::witnesses::{Sight, Witness};
 use gs_core::Refusal;
-use gs_drawn_requests::{Deed, Request, Write};
+use gs_drawn_requests::{Deed, Write};
 use gs_world::{World, WorldStep};
-use gs_world_models::{Dataset, Due, Lie, Rules};
+use gs_world_models::{Asked, Due, Lie, Rules, State};
 use std::alloc::{AllocError, Global};
 
 const BASE: &str = "http://localhost";
@@ -20,8 +20,8 @@ pub struct Judge {
     /// How many connections there are beside the witness, which comes after them.
     pub connections: u16,
     witness: Witness,
-    /// What the graphs are.
-    dataset: Dataset,
+    /// What the graphs are, and the numbers of the last writes on them.
+    state: State,
     /// The number of the step at hand.
     pub step: usize,
 }
@@ -47,9 +47,14 @@ impl Judge {
             clients,
             connections,
             witness: Witness::new(connections),
-            dataset: Dataset::new(),
+            state: State::new(),
             step: 0,
         })
+    }
+
+    /// The number of the last commit.
+    pub fn commit(&self) -> u64 {
+        self.state.commit
     }
 
     /// What the model knows of a connection.
@@ -72,15 +77,15 @@ impl Judge {
     }
 
     /// The witness reads all graphs, which are as before or these others.
-    fn look(&mut self, connection: u16, other: &Option<Dataset>) -> Result<(), Stop> {
-        let before = self.dataset;
+    fn look(&mut self, connection: u16, other: &Option<State>) -> Result<(), Stop> {
+        let before = self.state;
         let moment = self.moment(connection);
         match self
             .witness
             .look(&mut self.world, &self.rules, &before, other)?
         {
-            Sight::Graphs(dataset) => {
-                self.dataset = dataset;
+            Sight::Graphs(state) => {
+                self.state = state;
                 Ok(())
             }
             Sight::Others(written, wanted) => {
@@ -120,11 +125,11 @@ impl Judge {
     }
 
     /// A request was answered.
-    fn note_answer(&mut self, request: &Request, totals: &mut Totals) {
-        totals.note_request(request);
-        if self.rules.lie == Lie::FaultsRemove && matches!(request.deed, Deed::Fault(_)) {
-            let effect = self.dataset.after(&self.rules, request, Write::Remove);
-            self.dataset = effect.dataset;
+    fn note_answer(&mut self, asked: &Asked, totals: &mut Totals) {
+        totals.note_request(asked);
+        if self.rules.lie == Lie::FaultsRemove && matches!(asked.request.deed, Deed::Fault(_)) {
+            let effect = self.state.after(&self.rules, asked, Write::Remove);
+            self.state = effect.state;
         }
     }
 
@@ -133,7 +138,7 @@ impl Judge {
         &mut self,
         connection: u16,
         due: &Due,
-        before: Dataset,
+        before: State,
         totals: &mut Totals,
     ) -> Result<(), Stop> {
         let speaker = self.speaker(connection);
@@ -143,22 +148,22 @@ impl Judge {
         };
         let written = self.world.written(speaker);
         let text = written.get(client.said.len()..).unwrap_or_default();
-        let has_changed = before != self.dataset;
+        let has_changed = before != self.state;
         if let Some(kind) = found(due, text, has_changed) {
             return Err(moment.found(kind, text, due.text()));
         }
         match due.reply() {
             Some(reply) if !text.is_empty() => {
                 totals.note_reply(reply);
-                if let Some(request) = client.take(reply)? {
-                    self.note_answer(&request, totals);
+                if let Some(asked) = client.take(reply)? {
+                    self.note_answer(&asked, totals);
                 }
             }
             _ => {
-                if has_changed {
+                if before.dataset != self.state.dataset {
                     totals.note(Happening::Change);
                 }
-                client.rest(before, self.dataset)?;
+                client.rest(before, self.state)?;
             }
         }
         Ok(())
@@ -169,12 +174,12 @@ impl Judge {
         let Some(client) = self.clients.get(usize::from(connection)) else {
             return Ok(());
         };
-        let due = client.due(&self.rules, &self.dataset)?;
+        let due = client.due(&self.rules, &self.state)?;
         let effect = match &due {
             Due::Must(_) => None,
-            _ => client.effect(&self.rules, &self.dataset),
+            _ => client.effect(&self.rules, &self.state),
         };
-        let before = self.dataset;
+        let before = self.state;
         self.run(WorldStep::Turn(connection))?;
         self.look(connection, &effect)?;
         self.judge_text(connection, &due, before, totals)?;
@@ -219,8 +224,8 @@ impl Judge {
             if client.is_uploading() {
                 totals.note(Happening::DropInUpload);
                 if self.rules.lie == Lie::DroppedUploadsCount {
-                    let effect = client.effect_of_cut(&self.rules, &self.dataset);
-                    self.dataset = effect.unwrap_or(self.dataset);
+                    let effect = client.effect_of_cut(&self.rules, &self.state);
+                    self.state = effect.unwrap_or(self.state);
                 }
             }
             client.leave();

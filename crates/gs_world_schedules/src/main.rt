@@ -3,6 +3,7 @@
 #![tactic(auto)]
 
 mod clients;
+mod conditions;
 mod findings;
 mod judging;
 mod plays;
@@ -17,10 +18,12 @@ use gs_world_models::Lie;
 use std::alloc::Global;
 use std::io::{self, Write};
 
-/// How many schedules there are.
-const SCHEDULES: u64 = 500;
+/// The last schedule without conditions, and the last of all.
+const LAST_PLAIN: u64 = 500;
 
-/// How many of them are played again by a model that is wrong on purpose.
+const LAST: u64 = 560;
+
+/// How many of each sort are played again by a model that is wrong on purpose.
 const WRONG_SCHEDULES: u64 = 20;
 
 const LIES: [Lie; 6] = [
@@ -32,11 +35,15 @@ const LIES: [Lie; 6] = [
     Lie::NeighboursAnswer,
 ];
 
-/// Plays schedules with a model that is wrong, and prints what is found first, and in how many.
-fn play_wrong<W: Write>(alloc: Global, lie: Lie, out: &mut W) -> io::Result<()> {
+/// What it is told wrongly where some requests have conditions.
+const CONDITION_LIES: [Lie; 2] = [Lie::NeverLate, Lie::FaultyConditionsHold];
+
+/// Plays schedules after this one with a model that is wrong, and prints what is found first, and in how many.
+fn play_wrong<W: Write>(alloc: Global, before: u64, lie: Lie, out: &mut W) -> io::Result<()> {
     let mut totals = Totals::new();
     let mut count = 0u64;
-    for number in 1..=WRONG_SCHEDULES {
+    for place in 1..=WRONG_SCHEDULES {
+        let number = before.saturating_add(place);
         if let Err(stop) = play_schedule(alloc, number, lie, &mut totals) {
             if count == 0 {
                 write!(out, "wrong on purpose, {}: ", lie.text())?;
@@ -59,14 +66,11 @@ fn print_stop<W: Write>(stop: &Stop, number: u64, out: &mut W) -> io::Result<()>
     }
 }
 
-/// Plays all schedules.
-fn play_all<W: Write>(alloc: Global, out: &mut W) -> io::Result<()> {
-    for lie in &LIES {
-        play_wrong(alloc, *lie, out)?;
-    }
+/// Plays the schedules from one on to another.
+fn play_drawn<W: Write>(alloc: Global, first: u64, last: u64, out: &mut W) -> io::Result<()> {
     let mut totals = Totals::new();
     let mut findings = 0u64;
-    for number in 1..=SCHEDULES {
+    for number in first..=last {
         if let Err(stop) = play_schedule(alloc, number, Lie::Nothing, &mut totals) {
             findings = findings.saturating_add(1);
             print_stop(&stop, number, out)?;
@@ -74,6 +78,18 @@ fn play_all<W: Write>(alloc: Global, out: &mut W) -> io::Result<()> {
     }
     totals.print(out)?;
     writeln!(out, "{findings} findings")
+}
+
+/// Plays all schedules.
+fn play_all<W: Write>(alloc: Global, out: &mut W) -> io::Result<()> {
+    for lie in &LIES {
+        play_wrong(alloc, 0, *lie, out)?;
+    }
+    play_drawn(alloc, 1, LAST_PLAIN, out)?;
+    for lie in &CONDITION_LIES {
+        play_wrong(alloc, LAST_PLAIN, *lie, out)?;
+    }
+    play_drawn(alloc, LAST_PLAIN.saturating_add(1), LAST, out)
 }
 
 fn main(rt: HostRuntime) -> io::Result<()> {

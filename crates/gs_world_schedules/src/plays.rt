@@ -1,4 +1,5 @@
 //! One schedule, drawn step by step.
+use crate::conditions::Conditions;
 use crate::findings::Stop;
 use crate::judging::Judge;
 use crate::totals::{Happening, Totals};
@@ -20,11 +21,18 @@ const IDLE_ROUNDS: usize = 3;
 
 const MAX_CONNECTIONS: usize = 6;
 
+/// From this number on some requests have conditions.
+const FIRST_ON_CONDITION: u64 = 501;
+
+/// What is added to the number of a schedule for the seed of its conditions.
+const SECOND: u64 = 1_000_000;
+
 /// A schedule as it is played.
 #[derive(Drop)]
 struct Play {
     judge: Judge,
     draws: Draws,
+    conditions: Conditions,
     wires: Vec<Wire>,
     /// A piece is all that is left at one chance of so many.
     hurry: usize,
@@ -64,6 +72,15 @@ fn drawn_connections(draws: &mut Draws) -> u16 {
     u16::try_from(number).unwrap_or(1)
 }
 
+/// The seed of the conditions of a schedule, if it has any.
+fn conditions_seed(number: u64) -> Option<u64> {
+    if FIRST_ON_CONDITION <= number {
+        Some(number.saturating_add(SECOND))
+    } else {
+        None
+    }
+}
+
 impl Play {
     fn new(alloc: Global, number: u64, lie: Lie) -> Result<Play, Refusal> {
         let mut draws = Draws::new(number);
@@ -81,6 +98,7 @@ impl Play {
             judge: Judge::new(rules, connections)?,
             hurry: drawn_hurry(&mut draws),
             draws,
+            conditions: Conditions::new(conditions_seed(number), lie),
             wires,
         })
     }
@@ -88,13 +106,20 @@ impl Play {
     fn give(&mut self, connection: u16, totals: &mut Totals) -> Result<(), Stop> {
         totals.note(Happening::Bytes);
         let alloc = self.judge.rules.alloc;
+        self.conditions.commit = self.judge.commit();
         let Some(wire) = self.wires.get_mut(usize::from(connection)) else {
             return Ok(());
         };
         let Some(client) = self.judge.client(connection) else {
             return Ok(());
         };
-        let piece = wire.next_piece(alloc, &mut self.draws, self.hurry, client)?;
+        let piece = wire.next_piece(
+            alloc,
+            &mut self.draws,
+            &mut self.conditions,
+            self.hurry,
+            client,
+        )?;
         self.judge.give(connection, piece)
     }
 

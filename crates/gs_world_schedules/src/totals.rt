@@ -1,9 +1,9 @@
 //! What was done and seen over all schedules.
-use gs_drawn_requests::{Deed, Method, Request};
-use gs_world_models::Reply;
+use gs_drawn_requests::{Deed, Method};
+use gs_world_models::{Asked, Reply};
 use std::io::{self, Write};
 
-const STATUSES: usize = 12;
+const STATUSES: usize = 13;
 
 /// How often a status was seen.
 #[derive(Clone, Copy, Drop)]
@@ -12,7 +12,8 @@ struct Tally {
     count: u64,
 }
 
-/// How many requests of each kind were answered, and how many of the reads and HEADs were of all graphs.
+/// How many requests of each kind were answered, how many of the reads and HEADs were of all graphs, and how many of the
+/// writes on condition.
 #[derive(Clone, Copy, Drop)]
 struct Answered {
     get: u64,
@@ -23,6 +24,7 @@ struct Answered {
     patch: u64,
     denied: u64,
     of_all: u64,
+    on_condition: u64,
 }
 
 /// What happened once.
@@ -87,6 +89,7 @@ fn no_answers() -> Answered {
         patch: 0,
         denied: 0,
         of_all: 0,
+        on_condition: 0,
     }
 }
 
@@ -113,6 +116,7 @@ impl Totals {
                 new_tally(404),
                 new_tally(405),
                 new_tally(406),
+                new_tally(412),
                 new_tally(413),
                 new_tally(415),
                 new_tally(422),
@@ -142,13 +146,17 @@ impl Totals {
     }
 
     /// A request was answered.
-    pub fn note_request(&mut self, request: &Request) {
+    pub fn note_request(&mut self, asked: &Asked) {
+        let request = &asked.request;
         if matches!(request.deed, Deed::Denied(_, _)) {
             add_one(&mut self.answered.denied);
             return;
         }
         if request.is_of_all {
             add_one(&mut self.answered.of_all);
+        }
+        if asked.since.is_some() && !matches!(request.deed, Deed::Read | Deed::Look) {
+            add_one(&mut self.answered.on_condition);
         }
         match request.method {
             Method::Get => add_one(&mut self.answered.get),
@@ -213,8 +221,16 @@ impl Totals {
         let it = self.answered;
         writeln!(
             out,
-            "answered: GET {}, HEAD {}, PUT {}, POST {}, DELETE {}, PATCH {}, denied by the head {}, of all graphs {}",
-            it.get, it.head, it.put, it.post, it.delete, it.patch, it.denied, it.of_all,
+            "answered: GET {}, HEAD {}, PUT {}, POST {}, DELETE {}, PATCH {}, denied by the head {}, of all graphs {}, on condition {}",
+            it.get,
+            it.head,
+            it.put,
+            it.post,
+            it.delete,
+            it.patch,
+            it.denied,
+            it.of_all,
+            it.on_condition,
         )?;
         write!(out, "statuses:")?;
         for tally in &self.tallies {

@@ -1,5 +1,6 @@
 //! The bytes that a client sends: its requests are drawn, and come in pieces that are cut anywhere.
 use crate::clients::Client;
+use crate::conditions::Conditions;
 use gs_drawn_requests::{Draws, drawn_request};
 use std::alloc::{AllocError, Global};
 
@@ -32,11 +33,14 @@ impl Wire {
         &mut self,
         alloc: Global,
         draws: &mut Draws,
+        conditions: &mut Conditions,
         client: &mut Client,
     ) -> Result<(), AllocError> {
-        let drawn = drawn_request(alloc, draws, self.bytes.len())?;
-        client.send(drawn.request)?;
-        self.bytes.extend_from_slice(drawn.bytes.as_slice())
+        let start = self.bytes.len();
+        let drawn = drawn_request(alloc, draws, start)?;
+        let sent = conditions.sent(alloc, drawn.request, drawn.bytes.as_slice(), start)?;
+        client.send(sent.asked)?;
+        self.bytes.extend_from_slice(sent.bytes.as_slice())
     }
 
     /// The next piece: all that is left of what was drawn, at one chance of so many, else a few bytes.
@@ -45,13 +49,14 @@ impl Wire {
         &mut self,
         alloc: Global,
         draws: &mut Draws,
+        conditions: &mut Conditions,
         hurry: usize,
         client: &mut Client,
     ) -> Result<Vec<u8>, AllocError> {
         let few = draws.below(MAX_PIECE_BYTES).saturating_add(1);
         let is_whole = draws.is_one_in(hurry);
         if self.left() == 0 || (!is_whole && self.left() < few) {
-            self.add_request(alloc, draws, client)?;
+            self.add_request(alloc, draws, conditions, client)?;
         }
         let count = if is_whole {
             self.left()

@@ -1,7 +1,7 @@
 //! A connection that reads each graph, and all together, between the steps of the others.
 use gs_core::Refusal;
 use gs_world::{World, WorldStep};
-use gs_world_models::{Dataset, Rules, Shown, push_read, read_turns};
+use gs_world_models::{Dataset, Rules, Showing, Shown, State, push_read, read_turns};
 use std::alloc::AllocError;
 
 /// A read of each graph, and one of all.
@@ -33,26 +33,32 @@ pub struct Witness {
 /// What the witness saw.
 #[derive(Drop)]
 pub enum Sight {
-    /// The graphs are these.
-    Graphs(Dataset),
+    /// The graphs are these, after this commit.
+    Graphs(State),
     /// They are none of those that were looked for: what it wrote, and what it writes if nothing has
     /// changed.
     Others(Vec<u8>, Vec<u8>),
 }
 
 /// What the witness writes where the graphs are these.
-fn text_of(rules: &Rules, dataset: &Dataset) -> Result<Vec<u8>, AllocError> {
+fn text_of(rules: &Rules, state: &State) -> Result<Vec<u8>, AllocError> {
     let mut text = Vec::new(rules.alloc);
-    for shown in &shown_in(dataset) {
-        push_read(&mut text, rules, *shown, false, false)?;
+    for shown in &shown_in(&state.dataset) {
+        let showing = Showing {
+            shown: *shown,
+            commit: state.commit,
+            is_turtle: false,
+            closes: false,
+        };
+        push_read(&mut text, rules, &showing)?;
     }
     Ok(text)
 }
 
 /// How many turns that takes.
-fn turns_of(rules: &Rules, dataset: &Dataset) -> usize {
+fn turns_of(rules: &Rules, state: &State) -> usize {
     let mut turns = 0usize;
-    for shown in &shown_in(dataset) {
+    for shown in &shown_in(&state.dataset) {
         let made = read_turns(rules, *shown);
         turns = turns.saturating_add(made).saturating_add(1);
     }
@@ -70,12 +76,12 @@ impl Witness {
         &mut self,
         world: &mut World,
         rules: &Rules,
-        before: &Dataset,
-        other: &Option<Dataset>,
+        before: &State,
+        other: &Option<State>,
     ) -> Result<Sight, Refusal> {
         let mut turns = turns_of(rules, before);
-        if let Some(dataset) = other {
-            turns = turns.max(turns_of(rules, dataset));
+        if let Some(state) = other {
+            turns = turns.max(turns_of(rules, state));
         }
         self.read(world, rules, turns)?;
         let written = world.written(self.seat);
@@ -85,9 +91,9 @@ impl Witness {
         if text == wanted.as_slice() {
             return Ok(Sight::Graphs(*before));
         }
-        if let Some(dataset) = other {
-            if text == text_of(rules, dataset)?.as_slice() {
-                return Ok(Sight::Graphs(*dataset));
+        if let Some(state) = other {
+            if text == text_of(rules, state)?.as_slice() {
+                return Ok(Sight::Graphs(*state));
             }
         }
         let mut copy = Vec::new(rules.alloc);
