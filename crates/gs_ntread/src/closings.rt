@@ -77,7 +77,7 @@ impl Cursor {
     {
         match place {
             Ok(place) => {
-                self.place = place;
+                drop(mem::replace(&mut self.place, place));
                 self.within = Within::Between;
             }
             Err(fault) => self.fail(fault),
@@ -96,7 +96,10 @@ impl Cursor {
             Place::Datatype(subject, predicate) => {
                 to_typed(alloc, subject, predicate, &self.lexical, &self.text)?
             }
-            _other => Err(Fault::Syntax),
+            other => {
+                drop(other);
+                Err(Fault::Syntax)
+            }
         };
         self.settle(place);
         Ok(())
@@ -109,10 +112,13 @@ impl Cursor {
         match mem::replace(&mut self.place, Place::End) {
             Place::Object(subject, predicate) => {
                 mem::swap(&mut self.text, &mut self.lexical);
-                self.place = Place::Suffix(subject, predicate);
+                drop(mem::replace(&mut self.place, Place::Suffix(subject, predicate)));
                 self.within = Within::Between;
             }
-            _ => self.break_off(),
+            other => {
+                drop(other);
+                self.break_off();
+            }
         }
     }
 
@@ -122,10 +128,13 @@ impl Cursor {
     {
         match mem::replace(&mut self.place, Place::End) {
             Place::Suffix(subject, predicate) => {
-                self.place = Place::Datatype(subject, predicate);
+                drop(mem::replace(&mut self.place, Place::Datatype(subject, predicate)));
                 self.within = Within::Between;
             }
-            _ => self.break_off(),
+            other => {
+                drop(other);
+                self.break_off();
+            }
         }
     }
 }

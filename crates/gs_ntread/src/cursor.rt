@@ -170,7 +170,10 @@ impl Cursor {
                 object,
                 end: n,
             }),
-            _ => None,
+            other => {
+                drop(other);
+                None
+            }
         }
     }
 
@@ -188,7 +191,10 @@ impl Cursor {
         match literal {
             Ok(term) => {
                 self.within = Within::Between;
-                self.place = Place::Dot(subject, predicate, Object::Term(term));
+                drop(mem::replace(
+                    &mut self.place,
+                    Place::Dot(subject, predicate, Object::Term(term)),
+                ));
                 self.dot(c, n)
             }
             Err(fault) => {
@@ -220,7 +226,10 @@ impl Cursor {
                 let literal = gs_ntterm::plain(self.alloc, &self.lexical)?;
                 Ok(self.after_literal(subject, predicate, literal, c, n))
             }
-            _ => Ok(None),
+            other => {
+                drop(other);
+                Ok(None)
+            }
         }
     }
 

@@ -32,15 +32,21 @@ impl Cursor {
         match mem::replace(&mut self.place, Place::End) {
             Place::Subject => {
                 self.within = Within::Between;
-                self.place = Place::Predicate(Subject::Label(label));
+                drop(mem::replace(&mut self.place, Place::Predicate(Subject::Label(label))));
                 self.between(c, n)
             }
             Place::Object(subject, predicate) => {
                 self.within = Within::Between;
-                self.place = Place::Dot(subject, predicate, Object::Label(label));
+                drop(mem::replace(
+                    &mut self.place,
+                    Place::Dot(subject, predicate, Object::Label(label)),
+                ));
                 Ok(self.dot(c, n))
             }
-            _ => Ok(self.stop()),
+            other => {
+                drop(other);
+                Ok(self.stop())
+            }
         }
     }
 
@@ -49,7 +55,7 @@ impl Cursor {
         ensures { cursor_state self.new ≡ (if self.old.count == 0 then end_state c else broken Syntax) }
     {
         self.within = Within::Between;
-        self.place = Place::End;
+        drop(mem::replace(&mut self.place, Place::End));
         if self.count == 0 {
             self.after_dot(c);
         } else {
@@ -73,7 +79,10 @@ impl Cursor {
                     end,
                 }))
             }
-            _ => Ok(self.stop()),
+            other => {
+                drop(other);
+                Ok(self.stop())
+            }
         }
     }
 
@@ -87,7 +96,10 @@ impl Cursor {
                 let literal = gs_ntterm::tagged(self.alloc, &self.lexical, &self.text)?;
                 Ok(self.after_literal(subject, predicate, literal, c, n))
             }
-            _ => Ok(self.stop()),
+            other => {
+                drop(other);
+                Ok(self.stop())
+            }
         }
     }
 

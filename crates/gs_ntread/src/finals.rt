@@ -59,7 +59,10 @@ impl Cursor {
                 };
                 Ok((Some(parts), ending))
             }
-            _ => Ok((None, Err(Fault::Syntax))),
+            other => {
+                drop(other);
+                Ok((None, Err(Fault::Syntax)))
+            }
         }
     }
 }

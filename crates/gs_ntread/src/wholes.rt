@@ -165,7 +165,7 @@ impl Cursor {
                     n,
                 ))),
                 other => {
-                    self.place = other;
+                    drop(mem::replace(&mut self.place, other));
                     Ok(None)
                 }
             },
