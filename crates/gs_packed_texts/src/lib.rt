@@ -4,8 +4,6 @@
 mod counts;
 mod places;
 mod readers;
-#[cfg(test)]
-mod tests;
 mod texts;
 mod windows;
 
