@@ -54,7 +54,7 @@ help_text =
     ++ codes "  --listen ADDR  serve the connections to this address, as 127.0.0.1:8080" ++ line_feed ∷ []
     ++ codes "  --once         serve one connection over a new store, and end" ++ line_feed ∷ []
     ++ codes "  --base URL     http://HOST, which names begin with (default http://localhost)" ++ line_feed ∷ []
-    ++ codes "  --workers N    connections at once, 1 to 256 (default 4)" ++ line_feed ∷ []
+    ++ codes "  --workers N    requests at once, 1 to 256 (default 4)" ++ line_feed ∷ []
     ++ codes "  --piece N      lines of a piece of a reply, 1 to 4096 (default 256)" ++ line_feed ∷ []
     ++ codes "  -h, --help     show this text" ++ line_feed ∷ []
 

@@ -17,7 +17,7 @@ Usage: gsd --listen ADDR [--base URL] [--workers N] [--piece N]
   --listen ADDR  serve the connections to this address, as 127.0.0.1:8080
   --once         serve one connection over a new store, and end
   --base URL     http://HOST, which names begin with (default http://localhost)
-  --workers N    connections at once, 1 to 256 (default 4)
+  --workers N    requests at once, 1 to 256 (default 4)
   --piece N      lines of a piece of a reply, 1 to 4096 (default 256)
   -h, --help     show this text
 ";

@@ -8,7 +8,7 @@ const INTERRUPTIONS: u32 = 1_048_576;
 
 const ASKED: &str = "HEAD /graphs/h HTTP/1.1\r\nHost: a\r\n\r\n";
 
-const SAID: &str = "HTTP/1.1 404 Not Found\r\nContent-Length: 0\r\n\r\n";
+const SAID: &str = "HTTP/1.1 404 Not Found\r\nContent-Length: 0\r\nStore-Commit: 0\r\n\r\n";
 
 /// Nothing, where all these interruptions were made; else one more of them.
 fn interrupt(left: &mut u32) -> io::Result<()> {

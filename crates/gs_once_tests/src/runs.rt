@@ -13,7 +13,7 @@ Usage: gsd --listen ADDR [--base URL] [--workers N] [--piece N]
   --listen ADDR  serve the connections to this address, as 127.0.0.1:8080
   --once         serve one connection over a new store, and end
   --base URL     http://HOST, which names begin with (default http://localhost)
-  --workers N    connections at once, 1 to 256 (default 4)
+  --workers N    requests at once, 1 to 256 (default 4)
   --piece N      lines of a piece of a reply, 1 to 4096 (default 256)
   -h, --help     show this text
 ";
@@ -25,10 +25,10 @@ const MAKE: &str = "POST /store HTTP/1.1\r\nHost: a\r\nContent-Length: 0\r\n\r\n
 const LAST: &str = "DELETE /graphs/h HTTP/1.1\r\nHost: a\r\nConnection: close\r\n\r\n";
 
 const MADE: &str =
-    "HTTP/1.1 201 Created\r\nContent-Length: 0\r\nLocation: http://localhost/graphs/n1-0\r\n\r\n";
+    "HTTP/1.1 201 Created\r\nContent-Length: 0\r\nLocation: http://localhost/graphs/n1-0\r\nStore-Commit: 1\r\n\r\n";
 
 const MADE_ELSEWHERE: &str =
-    "HTTP/1.1 201 Created\r\nContent-Length: 0\r\nLocation: http://example.org:8080/graphs/n1-0\r\n\r\n";
+    "HTTP/1.1 201 Created\r\nContent-Length: 0\r\nLocation: http://example.org:8080/graphs/n1-0\r\nStore-Commit: 1\r\n\r\n";
 
 /// Makes a graph of two triples, and asks for it.
 const TWO: &str =
@@ -36,8 +36,8 @@ const TWO: &str =
 
 /// Two pieces of one line each.
 const IN_PIECES: &str = "\
-HTTP/1.1 201 Created\r\nContent-Length: 0\r\nLocation: http://localhost/graphs/n1-0\r\n\r\n\
-HTTP/1.1 200 OK\r\nContent-Type: application/n-triples\r\nTransfer-Encoding: chunked\r\n\r\n\
+HTTP/1.1 201 Created\r\nContent-Length: 0\r\nLocation: http://localhost/graphs/n1-0\r\nStore-Commit: 1\r\n\r\n\
+HTTP/1.1 200 OK\r\nContent-Type: application/n-triples\r\nTransfer-Encoding: chunked\r\nStore-Commit: 1\r\n\r\n\
 3e\r\n<a:a> <a:b> \"1\"^^<http://www.w3.org/2001/XMLSchema#integer> .\n\r\n\
 3e\r\n<a:a> <a:b> \"2\"^^<http://www.w3.org/2001/XMLSchema#integer> .\n\r\n0\r\n\r\n";
 
