@@ -5,8 +5,9 @@ import subprocess
 import sys
 
 UNAVAILABLE = "HTTP/1.1 503 Service Unavailable\nContent-Length: 0\nConnection: close\n\n"
-NO_CONTENT = "HTTP/1.1 204 No Content\n\n"
-OK = "HTTP/1.1 200 OK\nContent-Type: application/n-triples\nTransfer-Encoding: chunked\n\n"
+# The first write of a conversation is commit 1, and the read after it reports that number.
+NO_CONTENT = "HTTP/1.1 204 No Content\nStore-Commit: 1\n\n"
+OK = "HTTP/1.1 200 OK\nContent-Type: application/n-triples\nTransfer-Encoding: chunked\nStore-Commit: 1\n\n"
 GET = "GET /store?default HTTP/1.1\nHost: a\n\n"
 ONE = '<http://e/s> <http://e/p> "1" .'
 TWO = '<http://e/s> <http://e/p> "2" .'
@@ -16,11 +17,11 @@ CONVERSATIONS = {
     "a post of Turtle to the store, and a get of its graph": [
         (
             "POST /store HTTP/1.1\nHost: a\nContent-Type: text/turtle\nContent-Length: 29\n\n<http://e/s> a <http://e/C> .",
-            "HTTP/1.1 201 Created\nContent-Length: 0\nLocation: http://localhost/graphs/n1-0\n\n",
+            "HTTP/1.1 201 Created\nContent-Length: 0\nLocation: http://localhost/graphs/n1-0\nStore-Commit: 1\n\n",
         ),
         (
             "GET /graphs/n1-0 HTTP/1.1\nHost: a\nAccept: text/turtle;q=0.5, application/n-triples;q=0\n\n",
-            "HTTP/1.1 200 OK\nContent-Type: text/turtle\nTransfer-Encoding: chunked\n\n"
+            "HTTP/1.1 200 OK\nContent-Type: text/turtle\nTransfer-Encoding: chunked\nStore-Commit: 1\n\n"
             "4e\n<http://e/s> <http://www.w3.org/1999/02/22-rdf-syntax-ns#type> <http://e/C> .|\n0\n\n",
         ),
     ],

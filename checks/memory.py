@@ -23,7 +23,7 @@ B = r"[ \t]*"
 STATEMENT = re.compile(rf"{B}(?:{IRI}|{LABEL}){B}{IRI}{B}(?:{IRI}|{LABEL}|{LITERAL}){B}\.")
 EMPTY = re.compile(rf"{B}(?:#.*)?")
 EXCLUDED = r'[\x00-\x20<>"{}|^`\\]'
-NAMED = re.compile(r"(?m)^\d+ (?:open (?:put|post|patch)|pin|head|delete) (<[^>]*>)$")
+NAMED = re.compile(r"(?m)^\d+ (?:open (?:put|post|patch)|pin|head|delete) (<[^>]*>)(?: since \d+)?$")
 LETTERS = {"t": "\t", "b": "\b", "n": "\n", "r": "\r", "f": "\f"}
 
 
@@ -165,7 +165,8 @@ class Store:
     def __init__(self, seats=4, commit=0, request=0):
         self.seats, self.commit, self.request = seats, commit, request
         self.graphs = {"default": set()}
-        self.births = {}
+        self.births = {"default": commit}
+        self.removed = commit
         self.phases = {}
         self.fed = {}
         self.languages = {}
@@ -187,6 +188,14 @@ class Store:
         opened = sum(1 + (len(it[4]) if it[0] == "writing" else 0) for it in self.phases.values() if it[0] in ("writing", "patching"))
         return sum(self.kept(it) for it in self.graphs) + opened
 
+    def last_write(self, target):
+        """The commit number of the last write on a target; of a missing name that of the last Delete of any name."""
+        return self.births[target] if target in self.graphs else self.removed
+
+    def is_late(self, target, since):
+        """Whether a write that should come after no commit but those up to this number comes too late; None is any number."""
+        return since is not None and self.last_write(target) > since
+
     def pins(self):
         return [it[2] for it in self.phases.values() if it[0] == "reading"]
 
@@ -194,7 +203,7 @@ class Store:
         phase = self.phases[seat]
         both = phase[4] | set(lines)
         self.nodes.stage(seat, len(both) - len(phase[4]), self.commit)
-        self.phases[seat] = phase[:4] + (both,)
+        self.phases[seat] = phase[:4] + (both,) + phase[5:]
 
     def end(self, seat):
         """What the seat has open is given up."""
@@ -225,9 +234,9 @@ class Store:
         return {
             "open": phase[0] == "idle",
             "stage": phase[0] == "writing",
-            "commit": phase[0] == "writing" and not (phase[1] == "put" and phase[2] in self.graphs),
+            "commit": phase[0] == "writing" and not (phase[1] == "put" and phase[2] in self.graphs) and not self.is_late(phase[2], phase[5]),
             "piece": phase[0] == "reading" and words[2:] != ["0"],
-            "patch": phase[0] == "patching" and phase[1] in self.graphs,
+            "patch": phase[0] == "patching" and phase[1] in self.graphs and not self.is_late(phase[1], phase[3]),
         }.get(words[1], False)
 
     def new_name(self, request):
@@ -237,7 +246,7 @@ class Store:
         return f"<http://localhost/graphs/n{request}-{k}>"
 
     def read(self, seat, text):
-        _, _, target, request, _ = self.phases[seat]
+        target, request = self.phases[seat][2:4]
         return read_text(self.languages.get(seat), text, target, request)
 
     def feed(self, seat, language, text, is_refused):
@@ -262,8 +271,10 @@ class Store:
             self.stage(seat, new)
         return "fed"
 
-    def commit_upload(self, seat, kind, target, request, upload):
-        """The status of a commit, and the name that was made up."""
+    def commit_upload(self, seat, kind, target, request, upload, since):
+        """The status of a commit, and the name that was made up, or with 412 the number of the last write."""
+        if self.is_late(target, since):
+            return f"412 {self.last_write(target)}"
         if kind == "new":
             target = self.new_name(request)
         if self.commit == LAST_NUMBER:
@@ -279,8 +290,11 @@ class Store:
 
     def patch(self, seat, text):
         """What the text of an update prints to a seat that patches."""
-        _, target, request = self.phases[seat]
+        _, target, request, since = self.phases[seat]
         done = operations(text, target[1:-1] if target.startswith("<") else "http://localhost/store", request)
+        if isinstance(done, list) and target in self.graphs and self.is_late(target, since):
+            self.end(seat)
+            return f"412 {self.last_write(target)}"
         if isinstance(done, list) and target in self.graphs and self.commit == LAST_NUMBER:
             return "refused LastNumber"
         if not isinstance(done, list) or target not in self.graphs:
@@ -296,9 +310,11 @@ class Store:
         self.write(target, graph)
         return "204"
 
-    def delete(self, target):
+    def delete(self, target, since):
         if target not in self.graphs:
             return "404"
+        if self.is_late(target, since):
+            return f"412 {self.last_write(target)}"
         if self.commit == LAST_NUMBER:
             return "refused LastNumber"
         self.commit += 1
@@ -308,6 +324,7 @@ class Store:
             self.graphs[target] = set()
         else:
             del self.graphs[target]
+            self.removed = self.commit
         return "204"
 
     def step(self, seat, words, line):
@@ -324,10 +341,11 @@ class Store:
                 return ["refused LastNumber"]
             self.request += 1
             self.nodes.open()
+            since = int(words[5]) if words[4:5] == ["since"] else None
             if words[2] == "patch":
-                self.phases[seat] = ("patching", words[3], self.request)
+                self.phases[seat] = ("patching", words[3], self.request, since)
                 return [f"opened {self.request}"]
-            self.phases[seat] = ("writing", words[2], (words + [""])[3], self.request, set())
+            self.phases[seat] = ("writing", words[2], (words + [""])[3], self.request, set(), since)
             return [f"opened {self.request}"]
         if action == "stage":
             self.stage(seat, [line.split(" ", 2)[2]])
@@ -339,6 +357,8 @@ class Store:
             reported = self.commit_upload(seat, *phase[1:])
             if reported.startswith("refused"):
                 self.fed[seat] = None
+            elif reported.startswith("412"):
+                self.end(seat)
             else:
                 self.phases[seat] = ("idle",)
                 self.fed.pop(seat, None)
@@ -346,7 +366,7 @@ class Store:
         if action == "patch":
             return [self.patch(seat, "".join(line.split(" ", 2)[2:]))]
         if action == "delete":
-            return [self.delete(words[2])]
+            return [self.delete(words[2], int(words[4]) if words[3:4] == ["since"] else None)]
         if action in ("head", "pin"):
             lines = self.lines(words[2])
             if action == "pin" and lines is not None:
@@ -450,7 +470,7 @@ def large():
 
 
 def worked_rows(crates):
-    tables = [("gs_schedules/src/rows.rt", "ROWS"), ("gs_schedules/src/datasets.rt", "DATASETS"), ("gs_schedules/src/patches.rt", "PATCHES"), ("gs_feed_tests/src/feeds.rt", "FEEDS"), ("gs_feed_tests/src/turtle.rt", "FEEDS")]
+    tables = [("gs_schedules/src/rows.rt", "ROWS"), ("gs_schedules/src/datasets.rt", "DATASETS"), ("gs_schedules/src/conditions.rt", "CONDITIONS"), ("gs_schedules/src/patches.rt", "PATCHES"), ("gs_feed_tests/src/feeds.rt", "FEEDS"), ("gs_feed_tests/src/turtle.rt", "FEEDS")]
     return [row for file, table in tables for row in worked_schedules(f"{crates}/{file}", table)]
 
 

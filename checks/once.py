@@ -48,7 +48,7 @@ def check_memory(program):
     text = b"DELETE /graphs/h HTTP/1.1\r\nHost: a\r\nContent-Length: %d\r\n\r\n" % DROPPED_BYTES + bytes(DROPPED_BYTES)
     done = subprocess.run([program, "--once"], input=text, capture_output=True, preexec_fn=bound_memory, timeout=300)
     got = (done.returncode, done.stdout, done.stderr)
-    assert got == (0, b"HTTP/1.1 404 Not Found\r\nContent-Length: 0\r\n\r\n", b""), got
+    assert got == (0, b"HTTP/1.1 404 Not Found\r\nContent-Length: 0\r\nStore-Commit: 0\r\n\r\n", b""), got
     print(f"a body of {DROPPED_BYTES} bytes that is dropped, in {MAX_MEMORY_BYTES} bytes of memory: its reply is 404")
 
 

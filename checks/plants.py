@@ -16,7 +16,8 @@ from twins import TOP, below, text, uses
 # How many seconds a test or a program may run, once it is built.
 SECONDS = "600"
 
-ACTIONS, GATES, SHARED_STORES = "gs_tree_store/src/actions.rt", "gs_gates/src", "gs_shared/src/shared_stores.rt"
+ACTIONS, GATES = "gs_tree_store/src/actions.rt", "gs_gates/src"
+SHARED_STORES, SHARED_DOORS = "gs_shared/src/shared_stores.rt", "gs_shared/src/doors.rt"
 SERVING, WRITING = "gs_session/src/serving.rt", "gs_session/src/writing.rt"
 LINES, WORKERS = "gs_workers/src/lines.rt", "gs_workers/src/workers.rt"
 BIRTH = "let birth = books.versions.commit() + 1;\n    let merged"
@@ -51,6 +52,13 @@ PLANTS = [
     ("a question about all graphs is one about the default graph", SHARED_STORES,
      LOCKED, f"let event = match event {{\n            Event::Seat(seat, gs_event::Action::Head(gs_event::Scope::All)) => Event::Seat(seat, gs_event::Action::Head({OF_DEFAULT})),\n            other => other,\n        }};\n        {LOCKED}",
      [("gs_lock_thread_tests", "four_threads_leave_a_page_that_replays")]),
+    ("a condition is dropped at the lock", SHARED_STORES,
+     LOCKED, f"let event = match event {{\n            Event::Seat(seat, gs_event::Action::Open(kind, _)) => Event::Seat(seat, gs_event::Action::Open(kind, None)),\n            other => other,\n        }};\n        {LOCKED}",
+     [("gs_lock_tests", "same_answers_on_condition")]),
+    ("a door reports another commit number", SHARED_DOORS,
+     "self.store.event(self.rt, &mut self.pass, event)",
+     "match self.store.event(self.rt, &mut self.pass, event) {\n            Answer::Pinned(status, _) => Answer::Pinned(status, 0),\n            other => other,\n        }",
+     [("gs_lock_tests", "same_answers")]),
     ("the store takes what is refused to a pass", SHARED_STORES,
      "return Answer::Refused(Refusal::BadSeat);",
      "let asked = EventAsk::by(&event);\n            let _ = self.lock.lock(rt).event(rt, &self.cell, pass, event, asked);\n            return Answer::Refused(Refusal::BadSeat);",

@@ -139,17 +139,24 @@ def read_all(connection):
     return b"".join(parts)
 
 
+def last_commit(server):
+    """The number that a reply reports."""
+    return int(requests.head(server.url + "/store?default", timeout=30).headers["Store-Commit"])
+
+
 def check_pipeline(server):
     """A hundred requests at once on one connection, and one that closes it."""
     sent, wanted = [], []
+    first = last_commit(server) + 1
     for number in range(50):
         line = f'<http://e/s> <http://e/p> "{number}" .\n'
         put = f"PUT /graphs/p{number} HTTP/1.1\r\nHost: a\r\nContent-Type: {N_TRIPLES}\r\nContent-Length: {len(line)}\r\n\r\n{line}"
         sent += [put, f"GET /graphs/p{number} HTTP/1.1\r\nHost: a\r\n\r\n"]
-        head = f"HTTP/1.1 200 OK\r\nContent-Type: {N_TRIPLES}\r\nTransfer-Encoding: chunked\r\n\r\n"
-        wanted += ["HTTP/1.1 201 Created\r\nContent-Length: 0\r\n\r\n", f"{head}{len(line):x}\r\n{line}\r\n0\r\n\r\n"]
+        commit = f"Store-Commit: {first + number}\r\n\r\n"
+        head = f"HTTP/1.1 200 OK\r\nContent-Type: {N_TRIPLES}\r\nTransfer-Encoding: chunked\r\n{commit}"
+        wanted += [f"HTTP/1.1 201 Created\r\nContent-Length: 0\r\n{commit}", f"{head}{len(line):x}\r\n{line}\r\n0\r\n\r\n"]
     sent.append("DELETE /graphs/none HTTP/1.1\r\nHost: a\r\nConnection: close\r\n\r\n")
-    wanted.append("HTTP/1.1 404 Not Found\r\nContent-Length: 0\r\nConnection: close\r\n\r\n")
+    wanted.append(f"HTTP/1.1 404 Not Found\r\nContent-Length: 0\r\nStore-Commit: {first + 49}\r\nConnection: close\r\n\r\n")
     with socket.create_connection(("127.0.0.1", server.port), timeout=30) as connection:
         connection.sendall("".join(sent).encode())
         check("a pipeline", read_all(connection).decode(), "".join(wanted))
@@ -210,9 +217,9 @@ def check_base_and_pieces(server):
     lines = [f'<http://e/s> <http://e/p> "{number}" .\n' for number in range(3)]
     body = "".join(lines)
     fields = f"Host: a\r\nConnection: close\r\nContent-Type: {N_TRIPLES}\r\nContent-Length: {len(body)}"
-    made = "HTTP/1.1 201 Created\r\nContent-Length: 0\r\nLocation: http://a.example:80/graphs/n1-0\r\nConnection: close\r\n\r\n"
+    made = "HTTP/1.1 201 Created\r\nContent-Length: 0\r\nLocation: http://a.example:80/graphs/n1-0\r\nStore-Commit: 1\r\nConnection: close\r\n\r\n"
     check("--base", talk(server, f"POST /store HTTP/1.1\r\n{fields}\r\n\r\n{body}"), made)
-    head = f"HTTP/1.1 200 OK\r\nContent-Type: {N_TRIPLES}\r\nTransfer-Encoding: chunked\r\nConnection: close\r\n\r\n"
+    head = f"HTTP/1.1 200 OK\r\nContent-Type: {N_TRIPLES}\r\nTransfer-Encoding: chunked\r\nStore-Commit: 1\r\nConnection: close\r\n\r\n"
     pieces = "".join(f"{len(piece):x}\r\n{piece}\r\n" for piece in (lines[0] + lines[1], lines[2], ""))
     check("--piece", talk(server, "GET /graphs/n1-0 HTTP/1.1\r\nHost: a\r\nConnection: close\r\n\r\n"), head + pieces)
     print("options: names under another base, and pieces of two lines")
@@ -231,7 +238,7 @@ def check_one_worker(server):
             pass
         first.close()
         second.settimeout(20)
-        check("a second client of one worker", read_all(second), b"HTTP/1.1 404 Not Found\r\nContent-Length: 0\r\nConnection: close\r\n\r\n")
+        check("a second client of one worker", read_all(second), b"HTTP/1.1 404 Not Found\r\nContent-Length: 0\r\nStore-Commit: 1\r\nConnection: close\r\n\r\n")
     print("one worker: a second client waits until the first leaves in the middle of an upload")
 
 

@@ -5,10 +5,12 @@ import re
 import subprocess
 import sys
 
-from connection_memory import ONE, OK, TWO, UNAVAILABLE, ending, in_place_of, replies_of, sent
+from connection_memory import ONE, TWO, UNAVAILABLE, ending, in_place_of, replies_of, sent
 
-CREATED = "HTTP/1.1 201 Created\nContent-Length: 0\n\n"
-DELETED = "HTTP/1.1 204 No Content\n\n"
+# What one connection is refused changes the commit numbers of the other, so these are left out.
+CREATED = "HTTP/1.1 201 Created\nContent-Length: 0\nStore-Commit: N\n\n"
+DELETED = "HTTP/1.1 204 No Content\nStore-Commit: N\n\n"
+OK = "HTTP/1.1 200 OK\nContent-Type: application/n-triples\nTransfer-Encoding: chunked\nStore-Commit: N\n\n"
 
 
 def put(graph, *lines):
@@ -53,6 +55,7 @@ def shown(out):
     """The steps that were refused, and what was written on each connection."""
     text = out.decode()
     refused = [int(it) for it in re.findall(r"^memory: step (\d+) was refused$", text, re.M)]
+    text = re.sub("Store-Commit: [0-9]+", "Store-Commit: N", text)
     written = {int(it): ast.literal_eval(said).encode() for it, said in re.findall(r'^memory: connection (\d+): (".*")$', text, re.M)}
     return refused, written
 
