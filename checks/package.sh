@@ -1,14 +1,15 @@
 #!/bin/sh
 # Makes the Debian package of built programs, installs it in a folder that stands for a machine's root, starts the server as its unit does,
-# asks it, and takes it away again: package.sh [GSD [GSDRILL]]. It wants dpkg, binutils, curl and, where it is not run by root, fakeroot. What
-# systemd-analyze, man and lintian say is looked at where they are installed, and said to be left out where they are not.
+# asks it, saves its graphs and puts them back as the units say, and takes it away again: package.sh [GSD [GSDRILL]]. It wants dpkg, binutils,
+# curl, python3 and, where it is not run by root, fakeroot. What systemd-analyze, man and lintian say is looked at where they are installed,
+# and said to be left out where they are not.
 set -eu
 here=$(cd "$(dirname "$0")" && pwd)
 top=$(dirname "$here")
 gsd=${1:-$top/crates/gsd/out/gsd}
 gsdrill=${2:-$top/crates/gsdrill/out/gsdrill}
 missing=
-for tool in dpkg dpkg-deb objdump curl; do command -v "$tool" > /dev/null || missing="$missing $tool"; done
+for tool in dpkg dpkg-deb objdump curl python3; do command -v "$tool" > /dev/null || missing="$missing $tool"; done
 as_root=
 [ "$(id -u)" = 0 ] || { as_root=fakeroot; command -v fakeroot > /dev/null || missing="$missing fakeroot"; }
 [ -z "$missing" ] || { echo "package.sh wants:$missing"; exit 2; }
@@ -20,6 +21,7 @@ trap 'exit 129' HUP
 trap 'exit 130' INT
 trap 'exit 143' TERM
 root=$room/root
+saved=$root/usr/share/doc/gsd/examples/systemd/saved.conf
 wrong() { echo "wrong: $1"; exit 1; }
 has() { command -v "$1" > /dev/null || { echo "$1: not installed, left out"; return 1; }; }
 in_root() {
@@ -45,13 +47,27 @@ wanted=$(dpkg-deb -f "$package" Depends | sed -n 's/^libc6 (>= \(.*\))$/\1/p')
 [ -n "$wanted" ] || wrong "it depends on other things than libc6"
 echo "installed: $(files | wc -l) files; it wants libc6 $wanted"
 
+for page in "$root"/usr/share/doc/gsd/*.md; do
+    for link in $(sed '/^```/,/^```$/d' "$page" | grep -o ']([^) ]*)' | sed 's/^](//; s/[#)].*//' | grep -v : | sort -u); do
+        [ -e "$root/usr/share/doc/gsd/$link" ] || wrong "$(basename "$page") links to $link, which the package lacks"
+    done
+done
+echo "pages: each link to a file leads to one"
+
 if has systemd-analyze; then
     # Its targets are those of this machine, and the root of the check stays as it is.
     cp -r "$root" "$room/machine"
     cp -rn /lib/systemd/system/. "$room/machine/lib/systemd/system/"
-    said=$(systemd-analyze verify --man=no --root="$room/machine" gsd.service 2>&1) || wrong "systemd-analyze verify: $said"
-    [ -z "$said" ] || wrong "systemd-analyze verify: $said"
-    echo "systemd-analyze verify: nothing to say"
+    # Other packages have the programs that the units call.
+    for program in bin/sh usr/bin/curl usr/bin/python3 usr/bin/touch; do install -D -m 755 /dev/null "$room/machine/$program"; done
+    verify() {
+        said=$(systemd-analyze verify --man=no --root="$room/machine" "$@" 2>&1) || wrong "systemd-analyze verify: $said"
+        [ -z "$said" ] || wrong "systemd-analyze verify: $said"
+    }
+    verify gsd.service
+    install -D -m 644 "$saved" "$room/machine/etc/systemd/system/gsd.service.d/saved.conf"
+    verify gsd.service gsd-save.service gsd-save.timer
+    echo "systemd-analyze verify: nothing to say of the units, nor of gsd.service with saved.conf"
 fi
 if has man; then
     for page in "$root"/usr/share/man/man1/*.gz; do
@@ -84,20 +100,58 @@ environment=$(sed -n 's/^EnvironmentFile=-//p' "$root/lib/systemd/system/gsd.ser
 # shellcheck disable=SC1090
 . "$root$environment"
 export GSD_ARGS
-sh -c "ulimit -v $((bound * 1048576)); exec $root$line" > "$room/listening" & server=$!
-for _ in 1 2 3 4 5 6 7 8 9 10; do [ -s "$room/listening" ] && break; sleep 0.2; done
-address=$(sed -n 's/^listening //p' "$room/listening")
-[ -n "$address" ] || wrong "the server does not listen"
-[ "$(cat "/proc/$server/comm")" = gsd ] || wrong "the unit's process is not the server"
+for setting in $(sed -n 's/^Environment=\([A-Z_]*=[^ "]*\)$/\1/p' "$root/lib/systemd/system/gsd.service"); do
+    export "${setting?}"
+done
+start() {
+    : > "$room/listening"
+    sh -c "ulimit -v $((bound * 1048576)); exec $root$line" > "$room/listening" & server=$!
+    for _ in 1 2 3 4 5 6 7 8 9 10; do [ -s "$room/listening" ] && break; sleep 0.2; done
+    address=$(sed -n 's/^listening //p' "$room/listening")
+    [ -n "$address" ] || wrong "the server does not listen"
+    [ "$(cat "/proc/$server/comm")" = gsd ] || wrong "the unit's process is not the server"
+}
+# end: ends the server by a signal.
+end() {
+    kill "$server"
+    status=0
+    wait "$server" || status=$?
+    server=
+    [ "$status" = 143 ] || wrong "it ends with $status and not by the signal"
+}
+start
 status=$(curl -s "$address/graphs/a" -X PUT -H 'Content-Type: text/turtle' -d '<> <http://e/p> "1" .' -o /dev/null -w '%{http_code}')
 [ "$status" = 201 ] || wrong "a PUT is answered $status"
 [ "$(curl -s "$address/graphs/a")" = '<http://localhost:8080/graphs/a> <http://e/p> "1" .' ] || wrong "a GET"
-kill "$server"
-status=0
-wait "$server" || status=$?
-server=
-[ "$status" = 143 ] || wrong "it ends with $status and not by the signal"
+end
 echo "the unit's line: serves a PUT and a GET, and ends by a signal"
+
+# unit NAME FILE: does what the lines of that name say, but for the folders before the paths.
+mkdir "$room/state"
+unit() {
+    sed -n "s|/usr/lib/gsd/|$root&|g; s|/var/lib/gsd/|$room/state/|g; s/^$1=//p" "$2" > "$room/lines"
+    [ -s "$room/lines" ] || wrong "$2 has no $1"
+    GSD_URL=http://$address MAINPID=$server sh -e "$room/lines" 2> "$room/said"
+}
+put_back() {
+    for name in ExecStartPre ExecStartPost; do unit $name "$saved" || { cat "$room/said"; wrong "$name of saved.conf"; }; done
+}
+graph='<http://e/s> <http://e/p> "1" .'
+start
+! unit ExecStop "$saved" || wrong "a server without the graph that is written last is saved"
+put_back
+curl -sf "$address/graphs/a" -X PUT -H 'Content-Type: application/n-triples' --data-binary "$graph" || wrong "a PUT after a start with saved.conf"
+unit ExecStop "$saved" || { cat "$room/said"; wrong "a stop with saved.conf"; }
+end
+! unit ExecStartPost "$saved" || wrong "a start with saved.conf of a server that has ended"
+start
+put_back
+[ "$(curl -s "$address/graphs/a")" = "$graph" ] || wrong "a graph that was put back"
+curl -sf "$address/graphs/a" -X DELETE || wrong "a DELETE"
+unit ExecStart "$root/lib/systemd/system/gsd-save.service" || { cat "$room/said"; wrong "gsd-save.service"; }
+[ "$(wc -l < "$room/state/dataset.nq")" = 1 ] || wrong "gsd-save.service saves $(cat "$room/state/dataset.nq")"
+end
+echo "the lines of saved.conf and gsd-save.service: save a graph, and put it back"
 
 in_root -r gsd
 [ "$(files)" = ./etc/default/gsd ] || wrong "a removal leaves $(files)"

@@ -2,8 +2,8 @@
 
 A block that begins with three backquotes and `sh` is run by one shell a page, from top to bottom. The block `text` that follows it
 is just what it must print, on either output, and one without such a block must print nothing. A block with the name of a file after
-its language is saved under that name in the folder where the shell stands. Blocks without a language call the toolchain, and are
-left out, but for the session of README: one with the commands, and one with what they print, against the server that the page
+its language is saved under that name in the folder where the shell stands. Blocks without a language call the toolchain or
+systemd, and are left out, but for the session of README: one with the commands, and one with what they print, against the server that the page
 starts before it."""
 import os
 import pathlib

@@ -4,9 +4,10 @@
 set -eu
 here=$(cd "$(dirname "$0")" && pwd)
 missing=
-for package in binutils curl haproxy nginx nodejs openssl python3-rdflib python3-requests serdi; do
+for package in binutils curl default-jdk haproxy nginx nodejs openssl python3-rdflib python3-requests serdi; do
     case $package in
-        # Each of its flavours will do.
+        # Any version with the compiler will do, and each flavour of nginx.
+        default-jdk) command -v javac > /dev/null || missing="$missing default-jdk-headless" ;;
         nginx) command -v nginx > /dev/null || missing="$missing nginx-light" ;;
         nodejs) command -v node > /dev/null || missing="$missing nodejs" ;;
         *) dpkg -s "$package" > /dev/null 2>&1 || missing="$missing $package" ;;

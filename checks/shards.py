@@ -93,9 +93,11 @@ def status(to, method, target, body=None):
 
 
 def without_numbers(reply):
-    """The number of a request left out of the names that it makes."""
+    """The number of a request left out of the names that it makes, and that of a commit out of its field: each server has its own."""
     code, said, text = reply
     said = {name: re.sub(r"/graphs/n[0-9]+-", "/graphs/n-", value) for name, value in said.items()}
+    if "store-commit" in said:
+        said["store-commit"] = re.sub("[0-9]+", "N", said["store-commit"])
     return code, said, re.sub(r"_:b[0-9]+_", "_:b_", text)
 
 
@@ -123,11 +125,12 @@ def check_blank_nodes(front, alone):
 
 
 def said_to(to, sent):
-    """What comes for these bytes, with names of fields in small letters and no field of the connection itself."""
+    """What comes for these bytes, with names of fields in small letters, no field of the connection itself and no number of a commit."""
     with socket.create_connection(("127.0.0.1", to.port), timeout=30) as connection:
         connection.sendall(sent)
         said = server.read_all(connection).decode()
     said = re.sub(r"(?m)^([A-Za-z-]+):", lambda found: found[0].lower(), said)
+    said = re.sub(r"(?m)^store-commit: [0-9]+\r\n", "store-commit: N\r\n", said)
     return re.sub(r"(?m)^connection: close\r\n", "", said)
 
 
@@ -190,6 +193,19 @@ def check_places(front, servers):
     counts = [sum(it == [number] for it in places.values()) for number in range(len(servers))]
     print(f"places: {len(FEW)} graphs lie {', '.join(map(str, counts))} on the servers, {len(made)} made ones on one")
     return {target: it[0] for target, it in places.items()}
+
+
+def check_conditions(front):
+    """Of two editors who read a graph at the same number, the second comes too late, whichever server has the graph."""
+    for target in FEW:
+        number = ask(front, "GET", target)[1]["store-commit"]
+        fields = [f"Content-Type: {N_TRIPLES}", f"If-Store-Commit: {number}"]
+        first, second = (ask(front, "PUT", target, line, fields) for line in (LINE, LINE.replace('"1"', '"2"')))
+        server.check(f"PUT {target}, on condition", (first[0], second[0]), (204, 412))
+        server.check(f"GET {target}, after a 412", ask(front, "GET", target)[2], LINE)
+        again = [fields[0], f"If-Store-Commit: {ask(front, 'GET', target)[1]['store-commit']}"]
+        server.check(f"PUT {target}, read again", ask(front, "PUT", target, LINE, again)[0], 204)
+    print(f"on condition: the second of two editors is refused, of each of {len(FEW)} graphs, until it reads again")
 
 
 def check_fourth(program, front, servers, room):
@@ -274,6 +290,7 @@ def main(program, seconds):
             part(front)
         check_spellings(front, servers)
         places = check_places(front, servers)
+        check_conditions(front)
         check_fourth(program, front, servers, room)
         if int(seconds):
             measure(front, servers, alone, seconds)

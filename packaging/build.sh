@@ -39,9 +39,9 @@ put() { install -D -m "$1" "$2" "$root$3"; }
 # text FILE NAME: a page, whose links are to where the package has it; what the package lacks is named without a link.
 text() {
     mkdir -p "$doc"
-    sed -E 's|\]\(\.\./|](|g; s|\]\(docs/|](|g; s|\]\(bench/README\.md|](bench.md|g
+    sed -E '/^!\[.*\]\(plots\//d; s|\]\(\.\./|](|g; s|\]\(docs/|](|g; s|\]\(bench/README\.md|](bench.md|g
         s| \(\[[^]]*\]\(CONTRIBUTING\.md[^)]*\)\)||g
-        s|\[([^]]*)\]\((CONTRIBUTING\.md\|LICENSE\|checks/\|examples/systemd/)[^)]*\)|\1|g' "$1" > "$doc/$2"
+        s|\[([^]]*)\]\((CONTRIBUTING\.md\|LICENSE\|checks/\|crates/\|examples/systemd/gsd\.)[^)]*\)|\1|g' "$1" > "$doc/$2"
     chmod 644 "$doc/$2"
 }
 # page NAME: a manual page.
@@ -58,16 +58,22 @@ if [ -x "$gsdrill" ]; then
     put 755 "$gsdrill" /usr/bin/gsdrill
     page gsdrill
 fi
-put 644 "$top/examples/systemd/gsd.service" /lib/systemd/system/gsd.service
+for unit in gsd.service gsd-save.service gsd-save.timer; do
+    put 644 "$top/examples/systemd/$unit" "/lib/systemd/system/$unit"
+done
+put 755 "$top/examples/save.sh" /usr/lib/gsd/save.sh
+put 644 "$top/examples/restore.py" /usr/lib/gsd/restore.py
 put 644 "$here/gsd.default" /etc/default/gsd
 put 644 "$here/lintian-overrides" /usr/share/lintian/overrides/gsd
 for file in "$top"/README.md "$top"/CHANGES.md "$top"/docs/*.md; do
     text "$file" "$(basename "$file")"
 done
 text "$top/bench/README.md" bench.md
-for file in haproxy/haproxy.cfg nginx/gsd.conf; do
+for file in haproxy/haproxy.cfg nginx/gsd.conf systemd/saved.conf; do
     put 644 "$top/examples/$file" "/usr/share/doc/gsd/examples/$file"
 done
+# Where the commands of the pages call them.
+for script in save.sh restore.py; do ln -s "../../../../lib/gsd/$script" "$doc/examples/$script"; done
 {
     printf 'Format: https://www.debian.org/doc/packaging-manuals/copyright-format/1.0/\nUpstream-Name: gsd\n\nFiles: *\n'
     sed -n 's/^Copyright (c) /Copyright: /p' "$top/LICENSE"
@@ -94,15 +100,19 @@ Architecture: amd64
 Maintainer: $maintainer
 Installed-Size: $(du -sk --apparent-size "$root" | cut -f1)
 Depends: libc6 (>= $library)
+Recommends: curl, python3
 Suggests: nginx | haproxy
 Section: database
 Priority: optional
 Description: RDF graph store in memory, served over HTTP
  A server of the SPARQL 1.1 Graph Store HTTP Protocol: graphs are put, read,
  added to, patched and deleted over HTTP, as N-Triples and Turtle. Each write
- takes effect whole, and each read shows its graph as it was at one moment.
+ takes effect whole, and each read shows its graph, or all graphs, as they were
+ at one moment. A write may be on the condition that nobody wrote its graph
+ since it was read.
  .
- What it stores is in memory alone, and is gone when it ends.
+ What it stores is in memory alone, and is gone when it ends. Two scripts save
+ it to a file, which wants curl, and put it back, which wants python3.
 END
 echo /etc/default/gsd > "$root/DEBIAN/conffiles"
 (cd "$root" && find etc lib usr -type f -print0 | LC_ALL=C sort -z | xargs -0 md5sum) > "$root/DEBIAN/md5sums"
