@@ -1,4 +1,4 @@
-//! A version of a graph, the root of a tree and a count; and which version each graph has.
+//! A version of a graph: the root of its tree, and a count of its triples.
 #![tactic(auto)]
 
 mod versions;

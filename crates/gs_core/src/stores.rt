@@ -140,9 +140,9 @@ impl Store {
 
     /// Takes one event: the answer fits what the store shows, and the store then shows the next
     /// view. A refused event changes nothing. An Open takes a record, an upload's list a node for each
-    /// triple that is new to the upload, and every other event nothing, but the commits of a POST, of a
-    /// new graph and of a patch: these take no more than `gs_event::steps_take_few` says. A Reclaim
-    /// gives back the nodes and records that it frees.
+    /// triple that is new to the upload, and every other event nothing, but the commits of a POST and of a
+    /// patch that took effect: these take no more than `gs_event::steps_take_few` says. A POST beyond the
+    /// limits gives back the nodes of its upload, and a Reclaim the nodes and records that it frees.
     pub fn step(&mut self, event: &Event) -> Answer
         ensures steps { Steps self.old event.now result self.new }
         ensures uses { UsesNodes self.old event.now result self.new }

@@ -1,4 +1,5 @@
--- What 412 tells: its condition, and that the number which it reports is exactly that of the last write.
+-- What 412 tells: its condition, and that its number is that of the last write of the target or, where that is missing, of the last Delete of
+-- a name.
 use Rattle.std.proofs.Common.{◌≡◌, ◌<◌, ℕ, ◌+◌, nat_eq, Bool, true, false, ◌&&◌, cond, Option, Some, None, refl, sym, ap, ◌∙◌, subst, arith}
 use Rattle.std.proofs.lemmas.Bool.Decides.{nat_tests}
 use Rattle.gs_term.specs.declared.names.Target.{Target}
@@ -7,7 +8,7 @@ use Rattle.gs_event.specs.declared.answers.Answer.TheVariants.{Status}
 use Rattle.gs_event.specs.Datasets.{Dataset, graph_at, has, is_there, with_graph}
 use Rattle.gs_event.specs.Updates.{patched}
 use Rattle.gs_event.specs.Names.{new_name}
-use Rattle.gs_event.specs.Operations.{Setting, Operation, Puts, Posts, Creates, Patches, Deletes, Looks, Reads, is_within, united, after, status_of, is_success}
+use Rattle.gs_event.specs.Operations.{Setting, Operation, Puts, Posts, Creates, Patches, Deletes, Looks, Reads, is_within, united, status_of, is_success}
 use Rattle.gs_event.specs.Conditions.{State, last_write_on, Asked, is_above, is_late, last_write_of, status_if}
 use Rattle.gs_event.specs.Verdicts.{operation_target}
 use Rattle.gs_event.specs.Histories.{state_after, points_of}

@@ -1,5 +1,5 @@
 -- Writes on condition: what one that comes too late comes to, and what one in time does.
-use Rattle.std.proofs.Common.{◌≡◌, ◌+◌, ◌<◌, ◌≤◌, ◌&&◌, ℕ, Bool, true, false, not, nat_eq, cond, List, Option, Some, None, inl, inr, refl, sym, ap, ◌∙◌, add-zero}
+use Rattle.std.proofs.Common.{◌≡◌, ◌+◌, ◌<◌, ◌≤◌, ◌&&◌, ℕ, Bool, true, false, not, nat_eq, cond, List, Option, Some, None, inl, inr, refl, sym, ap, subst, ◌∙◌, add-zero}
 use Rattle.std.proofs.lemmas.Bool.Decides.{eqb_tells}
 use Rattle.std.proofs.lemmas.Option.{none-some, same_Some}
 use Rattle.gs_model.specs.Graphs.{Graph}
@@ -16,6 +16,7 @@ use Rattle.gs_event.specs.Conditions.{LastWrites, State, Asked, asked_since, is_
 use Rattle.gs_event.specs.Phases.{write_of}
 use Rattle.gs_event.specs.Views.{Totals, state_of, FitsWrite}
 use Rattle.gs_tree_store.specs.declared.books.Books.{Books}
+use Rattle.gs_tree_store.specs.Uses.{PostUses}
 use Rattle.gs_tree_store.specs.LastWrites.{last_writes_of, late_number, late_write_of, late_upload_of}
 use Rattle.gs_tree_store.specs.Books.{books_setting, dataset_of, totals_of}
 
@@ -107,11 +108,14 @@ well_in_time v q status well = elim (is_late (state_of v) q.since q.operation) a
   | false ↦ λ e. refl
 ]
 
--- nor has it the status of what did
-pub well_not_late : (status : ℕ) → is_success status ≡ true → not (nat_eq status 412) ≡ true
-well_not_late status well = elim (eqb_tells status 412) [
+-- what took effect has another status than what came too late, and than what the store would not hold
+pub post_done : (status staged m n : ℕ) → is_success status ≡ true → PostUses (nat_eq status 412) (nat_eq status 507) staged m n
+post_done status staged m n well = elim (eqb_tells status 412) [
   | inl late ↦ absurd (let no : false ≡ true = sym (ap is_success late.1) ∙ well in cc)
-  | inr other ↦ ap not other.0
+  | inr early ↦ elim (eqb_tells status 507) [
+    | inl full ↦ absurd (let no : false ≡ true = sym (ap is_success full.1) ∙ well in cc)
+    | inr held ↦ subst (λ x. PostUses x (nat_eq status 507) staged m n) (sym early.0) (subst (λ y. PostUses false y staged m n) (sym held.0) tt)
+  ]
 ]
 
 -- where no commit number is left for it

@@ -1,5 +1,5 @@
 -- Two wastes side by side: what joins them, what an action makes of both and of the numbers in use, and what a Reclaim frees of them.
-use Rattle.std.proofs.Common.{◌≡◌, ◌≢◌, ◌⊎◌, ℕ, ◌+◌, ◌-◌, ◌*◌, min, Bool, true, false, not, nat_eq, ◌||◌, IsTrue, List, [], ◌∷◌, ◌++◌, length, length-append, Option, cond, refl, sym, ap, arith, true≢false}
+use Rattle.std.proofs.Common.{◌≡◌, ◌≢◌, ◌⊎◌, ℕ, ◌+◌, ◌-◌, ◌*◌, min, Bool, true, false, nat_eq, ◌||◌, IsTrue, List, [], ◌∷◌, ◌++◌, length, length-append, Option, cond, refl, sym, ap, arith, true≢false}
 use Rattle.std.specs.List.{sum_by}
 use Rattle.std.proofs.lemmas.List.Elements.{All-append}
 use Rattle.std.proofs.lemmas.List.Sums.{sum_by-append}
@@ -21,7 +21,7 @@ use Rattle.gs_event.specs.Waste.{Lifetime, is_needed, unneeded}
 use Rattle.gs_event.specs.Wasting.{Joins, JoinsBoth, IsUnreached, EndsAt, EndsRecord, most_for_new, most_patched, UploadNodes, UpdateNodes, DeleteNodes, WastesNodes, UploadRecords, UpdateRecords, DeleteRecords, WastesRecords, WastesBoth}
 use Rattle.gs_event.specs.Steps.{Frees}
 use Rattle.gs_tree_store.specs.Opened.{TakesRecords}
-use Rattle.gs_tree_store.specs.Uses.{SameUnless, SeatUses}
+use Rattle.gs_tree_store.specs.Uses.{SameUnless, PostUses, SeatUses}
 use Rattle.gs_tree_store.specs.Actions.{TakesNodes}
 
 -- What joins a list joins it where it stands in a larger one: f puts a list into one that has more, and count says how much more.
@@ -104,10 +104,15 @@ as_many_unless : (done : Bool) (a b c d : ℕ) → SameUnless done a b → d ≡
 as_many_unless true a b c d x y = tt
 as_many_unless false a b c d x y = as_many a b c d x y
 
+post_both : (late full : Bool) (staged a b c d : ℕ) → PostUses late full staged a b → d ≡ c → PostUses late full staged (a + c) (b + d)
+post_both true full staged a b c d x y = as_many a b c d x y
+post_both false true staged a b c d x y = omega (arith, x, y)
+post_both false false staged a b c d x y = tt
+
 -- and of the numbers in use
 pub both_take : (p : SeatView) (action : Action) (answer : Answer) (a b c d : ℕ) → TakesNodes p action answer a b → TakesRecords action answer c d → SeatUses p action answer (a + c) (b + d)
 both_take (Writing k r g since) (Stage ts) Staged a b c d x y = grown_by a b c d (size_of g) _ x y
-both_take (Writing (Post t) r g since) Commit (Status status name number) a b c d x y = as_many_unless (not (nat_eq status 412)) a b c d x y
+both_take (Writing (Post t) r g since) Commit (Status status name number) a b c d x y = post_both (nat_eq status 412) (nat_eq status 507) (size_of g) a b c d x y
 both_take p (CommitPatch ops) (Status status name number) a b c d x y = as_many_unless (is_success status) a b c d x y
 both_take p (Open k since) (Opened r) a b c d x y = one_more a b c d x y
 both_take p (OpenPatch t since) (Opened r) a b c d x y = one_more a b c d x y

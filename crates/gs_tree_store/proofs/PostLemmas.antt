@@ -50,10 +50,9 @@ use Rattle.gs_tree_store.specs.Books.{graphs_of, books_setting, dataset_of, tota
 use Rattle.gs_tree_store.specs.Drafts.{CanDraft, IsRun, Drafts}
 use Rattle.gs_tree_store.specs.Uploads.{TakesKeys, MakesAgain}
 use Rattle.gs_tree_store.specs.Verdicts.{HasCounts}
-use Rattle.gs_tree_store.specs.Uses.{SameUnless}
 use Rattle.gs_tree_store.specs.Actions.{Acts, IsReadyAny}
 use Rattle.gs_tree_store.proofs.AlikeLemmas.{SameNow, with_records, acts_alike}
-use Rattle.gs_tree_store.proofs.ConditionLemmas.{fits_so, totals_so, comes_done, comes_undone, well_not_late, wants_in_time, no_number, upload_in_time}
+use Rattle.gs_tree_store.proofs.ConditionLemmas.{fits_so, totals_so, comes_done, comes_undone, post_done, wants_in_time, no_number, upload_in_time}
 use Rattle.gs_tree_store.proofs.CommitLemmas.{version_or}
 use Rattle.gs_tree_store.proofs.VerdictLemmas.{size_of_version, is_stored, is_not_stored, would_be_stored}
 use Rattle.gs_tree_store.proofs.WriteLemmas.{upload_graph, taken_over}
@@ -158,7 +157,7 @@ module _ (b : Books) (t : Target) (n : ℕ) (u : GraphVersion) (o : ℕ) (since 
                 ledger = ledger_stays (with_nodes b b.dict r) s Idle us rs l.read l.there here;
                 waste = subst (Joins IsUnreached (size_of graph) (waste_at b.pool)) (sym waste) (record { more = []; few = omega arith; same = λ f. omega arith; ended = λ k d lt. absurd (omega arith) });
               };
-          takes = tt;
+          takes = omega (arith, mid_use, restores.in_use, ap length apart.keys_are, ready.known.counted, size_of_version b.dict.terms b.pool u ready.known);
         })
 
     -- refused: the upload is made again, from the same keys
@@ -295,6 +294,6 @@ module _ (b : Books) (t : Target) (n : ℕ) (u : GraphVersion) (o : ℕ) (since 
                   ledger = ledger_stays new s Idle us rs l.read l.there e.ledger;
                   waste = subst (λ x. UploadNodes (totals_of b) (Post t) graph x (waste_at b.pool) (waste_at r)) (sym stored.well) copied;
                 };
-            takes = subst (λ x. SameUnless x (in_use b.pool) (in_use r)) (sym (well_not_late status stored.well)) tt;
+            takes = post_done status (size_of graph) (in_use b.pool) (in_use r) stored.well;
           } in
           subst (λ x. Acts b (with_draft b b.dict r w c write) s (Writing (Post t) n u o since) x Commit (Status status None (b.versions.commit + 1))) (sym idle) acts

@@ -1,5 +1,5 @@
 -- What a write makes of a seat and of its books.
-use Rattle.std.proofs.Common.{◌≡◌, ◌+◌, ◌*◌, ◌<◌, ◌≤◌, ℕ, Bool, true, false, not, nat_eq, List, [], ◌∷◌, length, get_or, set, Option, None, is_some, count_by, refl, sym, ap, subst, ◌∙◌, arith, true≢false}
+use Rattle.std.proofs.Common.{◌≡◌, ◌+◌, ◌*◌, ◌<◌, ◌≤◌, ℕ, true, false, List, [], ◌∷◌, length, get_or, set, Option, None, is_some, count_by, refl, sym, ap, subst, ◌∙◌, arith, true≢false}
 use Rattle.std.proofs.lemmas.List.{set-get_or}
 use Rattle.std.proofs.lemmas.List.Elements.{All-head}
 use Rattle.gs_model.specs.Graphs.{Graph, size_of}
@@ -42,9 +42,8 @@ use Rattle.gs_tree_store.specs.Books.{graphs_of, books_setting, dataset_of, tota
 use Rattle.gs_tree_store.specs.LastWrites.{last_writes_of}
 use Rattle.gs_tree_store.specs.Writes.{HasUpload, EndsOneVersion, Puts, GivesUpUpload}
 use Rattle.gs_tree_store.specs.Verdicts.{HasCounts}
-use Rattle.gs_tree_store.specs.Uses.{SameUnless}
 use Rattle.gs_tree_store.specs.Actions.{TakesNodes, Acts, IsReadyAny}
-use Rattle.gs_tree_store.proofs.ConditionLemmas.{ComesTo, fits_so, totals_so, comes_done, comes_undone}
+use Rattle.gs_tree_store.proofs.ConditionLemmas.{ComesTo, fits_so, totals_so, comes_done, comes_undone, post_done}
 use Rattle.gs_tree_store.proofs.SeatLemmas.{same_totals}
 use Rattle.gs_tree_store.proofs.AlikeLemmas.{gives_up_same, acts_alike}
 use Rattle.gs_tree_store.proofs.CommitLemmas.{roots_same}
@@ -101,14 +100,20 @@ refused_takes (Put t) r g since e n = refl
 refused_takes (Post t) r g since e n = refl
 refused_takes New r g since e n = refl
 
-same_unless : (done : Bool) (m n : ℕ) → n ≡ m → SameUnless done m n
-same_unless true m n same = tt
-same_unless false m n same = same
+-- an upload that was answered so takes no node
+abbrev TakesNone : UploadKind → ℕ → Graph → Option ℕ → ℕ → ℕ → Type 0
+TakesNone k r g since status number = (m n : ℕ) → n ≡ m → TakesNodes (phase.Writing k r g since) Commit (Status status None number) m n
 
-commit_takes : (k : UploadKind) (r : ℕ) (g : Graph) (since : Option ℕ) (status : ℕ) (name : Option (List ℕ)) (number m n : ℕ) → n ≡ m → TakesNodes (phase.Writing k r g since) Commit (Status status name number) m n
-commit_takes (Put t) r g since status name number m n same = same
-commit_takes (Post t) r g since status name number m n same = same_unless (not (nat_eq status 412)) m n same
-commit_takes New r g since status name number m n same = same
+-- so it is with one that came too late
+pub late_takes : (k : UploadKind) (r : ℕ) (g : Graph) (since : Option ℕ) (number : ℕ) → TakesNone k r g since 412 number
+late_takes (Put t) r g since number m n same = same
+late_takes (Post t) r g since number m n same = same
+late_takes New r g since number m n same = same
+
+stored_takes : (k : UploadKind) (r : ℕ) (g : Graph) (since : Option ℕ) (status : ℕ) (name : Option (List ℕ)) (number m n : ℕ) → is_success status ≡ true → n ≡ m → TakesNodes (phase.Writing k r g since) Commit (Status status name number) m n
+stored_takes (Put t) r g since status name number m n well same = same
+stored_takes (Post t) r g since status name number m n well same = post_done status (size_of g) m n well
+stored_takes New r g since status name number m n well same = same
 
 -- a commit that finds no number left: nothing changes
 pub commit_refused : (b : Books) (s : ℕ) (k : UploadKind) (r : ℕ) (v : GraphVersion) (o : ℕ) (since : Option ℕ) → FitsWrite (totals_of b) (asked_by b k r v since) (Refused LastNumber) → IsReady b s (Writing k r v o since) → Acts b b s (Writing k r v o since) (Writing k r v o since) Commit (Refused LastNumber)
@@ -161,8 +166,8 @@ failed_records v New g old new j = j
 -- a commit without effect: the upload was dropped, and its record given up
 pub commit_failed : (b new : Books) (s : ℕ) (k : UploadKind) (r : ℕ) (v : GraphVersion) (o : ℕ) (since : Option ℕ) (status number : ℕ) → GivesUpUpload b new o v
     → ComesTo (totals_of b) (asked_by b k r v since) status None number (state_of (totals_of b)) → is_success status ≡ false
-    → IsReady b s (Writing k r v o since) → Acts b new s (Writing k r v o since) Idle Commit (Status status None number)
-commit_failed b new s k r v o since status number drops comes fails ready =
+    → IsReady b s (Writing k r v o since) → TakesNone k r (upload_graph b v) since status number → Acts b new s (Writing k r v o since) Idle Commit (Status status None number)
+commit_failed b new s k r v o since status number drops comes fails ready takes =
     let q = new.pool in
     let g = upload_graph b v in
     let gs = graph_trees b.pool (graphs_of b) in
@@ -190,17 +195,17 @@ commit_failed b new s k r v o since status number drops comes fails ready =
             waste = subst (λ x. UploadNodes (totals_of b) k g x (waste_at b.pool) (waste_at q)) (sym fails)
                 (failed_wastes (totals_of b) k g (waste_at b.pool) (waste_at q) (subst (λ n. Joins IsUnreached n (waste_at b.pool) (waste_at q)) size d.waste));
           };
-      takes = commit_takes k r g since status None number (in_use b.pool) (in_use q) (same_use b.pool q drops.nodes);
+      takes = takes (in_use b.pool) (in_use q) (same_use b.pool q drops.nodes);
     }))
 
 -- so it was where it was beyond the limits, or came too late
 pub upload_full : (b new : Books) (s : ℕ) (k : UploadKind) (r : ℕ) (v : GraphVersion) (o : ℕ) (since : Option ℕ) (number : ℕ) → GivesUpUpload b new o v → is_late (state_of (totals_of b)) since (write_of k r (upload_graph b v)) ≡ false
     → IsNotStored (books_setting b) (dataset_of b) (write_of k r (upload_graph b v)) → None ≡ location_of (books_setting b) (dataset_of b) (write_of k r (upload_graph b v)) → number ≡ new.versions.commit
-    → IsReady b s (Writing k r v o since) → Acts b new s (Writing k r v o since) Idle Commit (Status 507 None number)
-upload_full b new s k r v o since number drops in_time not name is ready =
+    → IsReady b s (Writing k r v o since) → TakesNone k r (upload_graph b v) since 507 b.versions.commit → Acts b new s (Writing k r v o since) Idle Commit (Status 507 None number)
+upload_full b new s k r v o since number drops in_time not name is ready takes =
     let last : number ≡ b.versions.commit = is ∙ ap (λ (x : Books). x.versions.commit) drops.is in
     subst (λ n. Acts b new s (Writing k r v o since) Idle Commit (Status 507 None n)) (sym last)
-    (commit_failed b new s k r v o since 507 b.versions.commit drops (comes_undone (totals_of b) (asked_by b k r v since) in_time 507 None not.status_is refl name not.dataset) refl ready)
+    (commit_failed b new s k r v o since 507 b.versions.commit drops (comes_undone (totals_of b) (asked_by b k r v since) in_time 507 None not.status_is refl name not.dataset) refl ready takes)
 
 -- a commit with effect: the target has the upload's graph
 pub commit_stored : (old new : Books) (s : ℕ) (k : UploadKind) (r : ℕ) (v : GraphVersion) (o : ℕ) (since : Option ℕ) (t : Target) (status : ℕ) (name : Option (List ℕ)) (number : ℕ) → Puts old new o t v → old.versions.commit < last_number
@@ -234,7 +239,7 @@ commit_stored old new s k r v o since t status name number puts left in_time sto
             ledger = idle_ledger new s us rs l.there l.read e.ledger;
             waste = subst (λ b. UploadNodes (totals_of old) k g b (waste_at old.pool) (waste_at new.pool)) (sym stored.well) (wastes (waste_at old.pool) (waste_at new.pool) e.waste);
           };
-      takes = commit_takes k r g since status name (old.versions.commit + 1) (in_use old.pool) (in_use new.pool) (same_use old.pool new.pool kept.nodes);
+      takes = stored_takes k r g since status name (old.versions.commit + 1) (in_use old.pool) (in_use new.pool) stored.well (same_use old.pool new.pool kept.nodes);
     })
 
 -- where an upload leaves no waste, that is what was replaced

@@ -1,5 +1,5 @@
 -- What an action makes of the books and of its seat. No public clause cites this module.
-use Rattle.std.specs.Prelude.{◌≡◌, ℕ, ◌+◌, not, nat_eq, List, None, slice_index_or}
+use Rattle.std.specs.Prelude.{◌≡◌, ℕ, ◌+◌, nat_eq, List, None, slice_index_or}
 use Rattle.std.specs.List.{slice_set}
 use Rattle.gs_model.specs.Graphs.{size_of, with_triples}
 use Rattle.gs_event.specs.declared.events.Action.{Action}
@@ -18,14 +18,14 @@ use Rattle.gs_staging.specs.Keys.{Grows}
 use Rattle.gs_ledger.specs.Marks.{waste_at}
 use Rattle.gs_tree_store.specs.declared.books.Books.{Books}
 use Rattle.gs_tree_store.specs.declared.books.Seat.{Seat}
-use Rattle.gs_tree_store.specs.Uses.{SameUnless}
+use Rattle.gs_tree_store.specs.Uses.{SameUnless, PostUses}
 use Rattle.gs_tree_store.specs.Books.{totals_of, seat_view_by, read_trees, IsSeat, HasItsVersion, IsSound, IsReady, HasLedgerAt}
 
 -- What a seat's action that was answered so makes of the number of nodes in use: what it makes of that of nodes and records, but that an
 -- Open takes no node.
 abbrev pub TakesNodes : SeatView → Action → Answer → ℕ → ℕ → Type 0
 TakesNodes (Writing k r g since) (Stage ts) Staged old new = new + size_of g ≡ old + size_of (with_triples g ts.items)
-TakesNodes (Writing (Post t) r g since) Commit (Status status name number) old new = SameUnless (not (nat_eq status 412)) old new
+TakesNodes (Writing (Post t) r g since) Commit (Status status name number) old new = PostUses (nat_eq status 412) (nat_eq status 507) (size_of g) old new
 TakesNodes p (CommitPatch ops) (Status status name number) old new = SameUnless (is_success status) old new
 TakesNodes p action a old new = new ≡ old
 

@@ -1,5 +1,5 @@
 -- How many nodes and records an event that was answered so takes into use, where that is told exactly.
-use Rattle.std.specs.Prelude.{◌≡◌, ℕ, ◌+◌, Bool, true, false, not, nat_eq, Option, Some}
+use Rattle.std.specs.Prelude.{◌≡◌, ℕ, ◌+◌, Bool, true, false, nat_eq, Option, Some}
 use Rattle.std.specs.List.{slice_get}
 use Rattle.gs_model.specs.Graphs.{size_of, with_triples}
 use Rattle.gs_event.specs.declared.events.UploadKind.TheVariants.{Post}
@@ -20,14 +20,21 @@ abbrev pub SameUnless : Bool → ℕ → ℕ → Type 0
 SameUnless true old new = Unit {0}
 SameUnless false old new = new ≡ old
 
--- What a seat's action that was answered so makes of the number of nodes and records in use: an Open raises it by one, and a Stage by the
--- triples that are new to its upload. What a POST takes that did not come too late, and a PATCH that took effect, is said of every step, and
--- nothing else changes it.
+-- What the commit of a POST makes of the number, by whether it came too late, whether the store would hold too much, and how many triples
+-- were staged: too late, what was staged stays as waste; too much, it is given back. What it takes where it took effect is said of every step.
+abbrev pub PostUses : Bool → Bool → ℕ → ℕ → ℕ → Type 0
+PostUses true full staged old new = new ≡ old
+PostUses false true staged old new = new + staged ≡ old
+PostUses false false staged old new = Unit {0}
+
+-- What a seat's action that was answered so makes of the number of nodes and records in use: an Open raises it by one, a Stage by the triples
+-- that are new to its upload, and nothing else changes it but the commits of a POST, and of a PATCH that took effect: what that takes is said
+-- of every step.
 abbrev pub SeatUses : SeatView → Action → Answer → ℕ → ℕ → Type 0
 SeatUses p (Open k since) (Opened r) old new = new ≡ old + 1
 SeatUses p (OpenPatch t since) (Opened r) old new = new ≡ old + 1
 SeatUses (Writing k r g since) (Stage ts) Staged old new = new + size_of g ≡ old + size_of (with_triples g ts.items)
-SeatUses (Writing (Post t) r g since) Commit (Status status name number) old new = SameUnless (not (nat_eq status 412)) old new
+SeatUses (Writing (Post t) r g since) Commit (Status status name number) old new = PostUses (nat_eq status 412) (nat_eq status 507) (size_of g) old new
 SeatUses p (CommitPatch ops) (Status status name number) old new = SameUnless (is_success status) old new
 SeatUses p action a old new = new ≡ old
 

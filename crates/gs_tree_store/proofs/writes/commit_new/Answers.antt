@@ -45,7 +45,7 @@ returns-in-Full-clause-acts c = λ s ready.
     let decided = subst (λ n. DecidesUpload b (Named n) c.args.upload Full) c.in-Ok.ensures.0 c.in-Full.ensures in
     let not = is_not_stored w m b.versions.commit (Creates r g) (Named own) g refl refl decided in
     subst (λ x. Acts b new s (Writing New r c.args.upload c.args.opened c.args.since) x Commit (Status 507 None c.commit.result)) (sym c.requires.idle)
-    (upload_full b new s New r c.args.upload c.args.opened c.args.since c.commit.result c.drop_upload.ensures refl not (no_name_reported w m r g decided) c.commit.ensures ready)
+    (upload_full b new s New r c.args.upload c.args.opened c.args.since c.commit.result c.drop_upload.ensures refl not (no_name_reported w m r g decided) c.commit.ensures ready (λ m n same. same))
 
 pub returns-in-LastNumber-clause-acts : goal.returns-in-LastNumber-clause-acts
 returns-in-LastNumber-clause-acts c = λ s ready.

@@ -35,7 +35,7 @@ returns-in-Full-clause-acts c = λ s ready.
     let new = c.drop_upload.new.books in
     let not = is_not_stored (books_setting b) (dataset_of b) b.versions.commit (Puts t g) t g refl refl c.in-Full.ensures in
     subst (λ x. Acts b new s (Writing (Put t) c.args.request c.args.upload c.args.opened c.args.since) x Commit (Status 507 None c.commit.result)) (sym c.requires.idle)
-    (upload_full b new s (Put t) c.args.request c.args.upload c.args.opened c.args.since c.commit.result c.drop_upload.ensures (upload_in_time b t c.args.since c.requires.in_time) not refl c.commit.ensures ready)
+    (upload_full b new s (Put t) c.args.request c.args.upload c.args.opened c.args.since c.commit.result c.drop_upload.ensures (upload_in_time b t c.args.since c.requires.in_time) not refl c.commit.ensures ready (λ m n same. same))
 
 pub returns-in-Granted-clause-acts : goal.returns-in-Granted-clause-acts
 returns-in-Granted-clause-acts c = λ s ready.

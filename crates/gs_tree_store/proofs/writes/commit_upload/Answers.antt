@@ -8,7 +8,7 @@ use Rattle.gs_tree_store.specs.Opened.{own_record}
 use Rattle.gs_tree_store.specs.Actions.{Acts}
 use Rattle.gs_tree_store.proofs.ConditionLemmas.{upload_late}
 use Rattle.gs_tree_store.proofs.OpenedLemmas.{record_given_up}
-use Rattle.gs_tree_store.proofs.WriteLemmas.{upload_graph, has_upload, commit_failed, failed_records}
+use Rattle.gs_tree_store.proofs.WriteLemmas.{upload_graph, has_upload, late_takes, commit_failed, failed_records}
 use Rattle.gs_tree_store.proofs.writes.commit_upload.Goals as goal
 
 pub drop_upload-requires-clause-upload : goal.drop_upload-requires-clause-upload
@@ -26,7 +26,7 @@ returns-in-Some-clause-acts c = λ s ready.
     let new = c.drop_upload.new.books in
     let number = c.in-Some.number in
     subst (λ x. Acts b new s (Writing k r v c.args.opened c.args.since) x Commit (Status 412 None number)) (sym c.requires.idle)
-    (commit_failed b new s k r v c.args.opened c.args.since 412 number c.drop_upload.ensures (upload_late b k r (upload_graph b v) c.args.since number c.in-Some.ensures) refl ready)
+    (commit_failed b new s k r v c.args.opened c.args.since 412 number c.drop_upload.ensures (upload_late b k r (upload_graph b v) c.args.since number c.in-Some.ensures) refl ready (late_takes k r (upload_graph b v) c.args.since number))
 
 pub returns-in-Some-clause-records : goal.returns-in-Some-clause-records
 returns-in-Some-clause-records c =
