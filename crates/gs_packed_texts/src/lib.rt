@@ -4,6 +4,8 @@
 mod counts;
 mod places;
 mod readers;
+#[cfg(test)]
+mod tests;
 mod texts;
 mod windows;
 

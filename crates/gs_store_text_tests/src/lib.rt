@@ -1,11 +1,9 @@
-//! Tests of texts in a store: the lines of a read, packed texts and triples, and names that a store makes up.
+//! Tests of texts in a store: the lines of a read, packed triples, and names that a store makes up.
 #![tactic(auto)]
 
 #[cfg(test)]
 mod lines;
 #[cfg(test)]
 mod made_names;
-#[cfg(test)]
-mod packed_texts;
 #[cfg(test)]
 mod packed_triples;

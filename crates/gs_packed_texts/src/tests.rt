@@ -1,6 +1,7 @@
 //! Texts packed and read back, with the number of their own bytes as counted by hand. Each text has the
 //! memory of the third text before it: a row speaks of the first memory where its other texts are empty.
-use gs_packed_texts::{PackedTexts, Texts};
+use crate::readers::Texts;
+use crate::texts::PackedTexts;
 use std::alloc::{AllocError, Global};
 use std::test::Fail;
 
