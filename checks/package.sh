@@ -59,7 +59,7 @@ if has systemd-analyze; then
     cp -r "$root" "$room/machine"
     cp -rn /lib/systemd/system/. "$room/machine/lib/systemd/system/"
     # Other packages have the programs that the units call.
-    for program in bin/sh usr/bin/curl usr/bin/python3 usr/bin/touch; do install -D -m 755 /dev/null "$room/machine/$program"; done
+    for program in bin/sh usr/bin/curl usr/bin/python3; do install -D -m 755 /dev/null "$room/machine/$program"; done
     verify() {
         said=$(systemd-analyze verify --man=no --root="$room/machine" "$@" 2>&1) || wrong "systemd-analyze verify: $said"
         [ -z "$said" ] || wrong "systemd-analyze verify: $said"
@@ -116,7 +116,7 @@ end() {
     kill "$server"
     status=0
     wait "$server" || status=$?
-    server=
+    ended=$server server=
     [ "$status" = 143 ] || wrong "it ends with $status and not by the signal"
 }
 start
@@ -131,7 +131,7 @@ mkdir "$room/state"
 unit() {
     sed -n "s|/usr/lib/gsd/|$root&|g; s|/var/lib/gsd/|$room/state/|g; s/^$1=//p" "$2" > "$room/lines"
     [ -s "$room/lines" ] || wrong "$2 has no $1"
-    GSD_URL=http://$address MAINPID=$server sh -e "$room/lines" 2> "$room/said"
+    GSD_URL=http://$address MAINPID=${server:-$ended} sh -e "$room/lines" 2> "$room/said"
 }
 put_back() {
     for name in ExecStartPre ExecStartPost; do unit $name "$saved" || { cat "$room/said"; wrong "$name of saved.conf"; }; done
@@ -144,6 +144,7 @@ curl -sf "$address/graphs/a" -X PUT -H 'Content-Type: application/n-triples' --d
 unit ExecStop "$saved" || { cat "$room/said"; wrong "a stop with saved.conf"; }
 end
 ! unit ExecStartPost "$saved" || wrong "a start with saved.conf of a server that has ended"
+grep -q 'No such process' "$room/said" || wrong "a start of a server that has ended says $(cat "$room/said")"
 start
 put_back
 [ "$(curl -s "$address/graphs/a")" = "$graph" ] || wrong "a graph that was put back"

@@ -1,13 +1,16 @@
 """What a server holds is saved and put back: restore.py PROGRAM TRIPLES. The largest graph has so many triples. Two files that are saved, one
 before and one after, have the same lines but for the labels of blank nodes, and of these a change one to one is found. Then saves and restores
 that end early, or have to be refused. Ends with status 1 if anything is wrong."""
+import fcntl
 import filecmp
 import glob
 import http.client
 import itertools
 import os
 import re
+import shutil
 import signal
+import stat
 import subprocess
 import sys
 import tempfile
@@ -27,7 +30,7 @@ READY = "urn:gsd:ready"
 BODY_BYTES = 1_000_000
 
 # A curl that reads no faster than this can be ended in the middle of a reply. What the sockets hold is far less than the dataset.
-SLOW = "limit-rate = 10M\n"
+SLOW = f'#!/bin/sh\nexec {shutil.which("curl")} "$@" --limit-rate 10M\n'
 
 GRAPHS, CHAINS, CHAIN_NODES, PAIRS = 1_000, 10, 100, 20_000
 ODD_NAMES = (
@@ -98,10 +101,10 @@ def fill(client, triples):
         client.write("POST", "/graphs/large", large_lines(begin, min(begin + 250_000, triples)))
 
 
-def save(server, path, ready=None, slow_home=None):
+def save(server, path, ready=None, **more):
+    """A save, with what more is said in its environment."""
     words = [SAVE, server.url + "/store", path] + ([server.url + "/store?graph=" + READY] if ready else [])
-    environment = os.environ | ({"CURL_HOME": slow_home} if slow_home else {})
-    return subprocess.Popen(words, stderr=subprocess.PIPE, text=True, env=environment)
+    return subprocess.Popen(words, stderr=subprocess.PIPE, text=True, env=os.environ | more)
 
 
 def ended(process):
@@ -113,6 +116,17 @@ def ended(process):
 def restore(server, path, *options):
     words = [sys.executable, RESTORE, *options, server.url, path]
     return subprocess.Popen(words, stderr=subprocess.PIPE, text=True)
+
+
+def held(server, client, path, *options):
+    """A restore that is held after its first commit, so that what follows is in the middle of it."""
+    before = client.ask("HEAD", "/store")[2]
+    process = restore(server, path, *options)
+    while client.ask("HEAD", "/store")[2] == before and process.poll() is None:
+        time.sleep(0.002)
+    process.send_signal(signal.SIGSTOP)
+    check("a restore is held in its middle", process.poll() is None)
+    return process
 
 
 def ready_options(server):
@@ -236,9 +250,9 @@ def check_same(program, room, triples):
     return first
 
 
-def in_the_middle(server, path, home):
-    """A slow save of which a part is there."""
-    process = save(server, path, slow_home=home)
+def in_the_middle(server, path, slow):
+    """A save by the slow curl of that folder, of which a part is there."""
+    process = save(server, path, PATH=f"{slow}:{os.environ['PATH']}")
     while process.poll() is None:
         if any(os.path.getsize(it) for it in glob.glob(f"{path}.*/dataset")):
             return process
@@ -248,11 +262,12 @@ def in_the_middle(server, path, home):
 
 def check_ended_saves(program, room, first):
     """Saves that are ended, and whose server is ended."""
-    path, home = f"{room}/ended/dataset.nq", f"{room}/home"
-    for folder in (f"{room}/ended", home):
+    path, slow = f"{room}/ended/dataset.nq", f"{room}/slow"
+    for folder in (f"{room}/ended", slow):
         os.mkdir(folder)
-    with open(f"{home}/.curlrc", "w", encoding="ascii") as settings:
-        settings.write(SLOW)
+    with open(f"{slow}/curl", "w", encoding="utf-8") as program_of_it:
+        program_of_it.write(SLOW)
+    os.chmod(f"{slow}/curl", 0o755)
     old = "<http://e/s> <http://e/p> <http://e/the/old/file> .\n"
     with open(path, "w", encoding="ascii") as file:
         file.write(old)
@@ -266,11 +281,11 @@ def check_ended_saves(program, room, first):
     with Server(program, "--base", BASE) as server:
         check("a restore", ended(restore(server, first))[0] == 0)
         for name, number in (("SIGTERM", signal.SIGTERM), ("SIGHUP", signal.SIGHUP), ("SIGINT", signal.SIGINT)):
-            process = in_the_middle(server, path, home)
+            process = in_the_middle(server, path, slow)
             process.send_signal(number)
             check(f"a save ended by {name}", ended(process)[0] == 128 + number)
             look(f"a save ended by {name}", 0)
-        process = in_the_middle(server, path, home)
+        process = in_the_middle(server, path, slow)
         with open(f"/proc/{process.pid}/task/{process.pid}/children", encoding="ascii") as children:
             curl = int(children.read())
         process.kill()
@@ -282,7 +297,7 @@ def check_ended_saves(program, room, first):
             for file in os.listdir(folder):
                 os.remove(os.path.join(folder, file))
             os.rmdir(folder)
-        process = in_the_middle(server, path, home)
+        process = in_the_middle(server, path, slow)
         server.process.kill()
         status, said = ended(process)
         check("a save whose server ends fails", status == 1 and "stays as it was" in said, (status, said))
@@ -293,6 +308,34 @@ def check_ended_saves(program, room, first):
         status, said = ended(restore(server, first))
         check("a restore without a server fails", status == 1 and "lines 1 to " in said, (status, said))
     print("saves that end early: the old file stands", flush=True)
+
+
+def check_places(program, room):
+    """What a save replaces, and what it keeps of it."""
+    path, pipe, home = f"{room}/places/dataset.nq", f"{room}/places/pipe", f"{room}/home"
+    for folder in (f"{room}/places", home):
+        os.mkdir(folder)
+    os.mkfifo(pipe)
+    with open(f"{home}/.curlrc", "w", encoding="ascii") as settings:
+        settings.write("include\n")
+    with open(path, "wb"):
+        os.chmod(path, 0o640)
+    with Server(program, "--base", BASE) as server:
+        client = Client(server)
+        client.write("PUT", "/graphs/a", '<http://e/s> <http://e/p> "1" .\n')
+        status, said = ended(save(server, pipe))
+        check("a save never replaces a pipe", status == 1 and "no plain file" in said and stat.S_ISFIFO(os.stat(pipe).st_mode), (status, said))
+        folder = os.open(f"{room}/places", os.O_RDONLY)
+        fcntl.flock(folder, fcntl.LOCK_EX)
+        process = save(server, path, HOME=home, CURL_HOME=home)
+        time.sleep(0.3)
+        check("a save waits for another one of its folder", process.poll() is None and os.path.getsize(path) == 0)
+        os.close(folder)
+        check("a save after another one", ended(process)[0] == 0)
+        with open(path, "rb") as file:
+            check("settings of the user's curl are not read", file.read() == client.ask("GET", "/store")[1])
+        check("the mode of the file stays", stat.S_IMODE(os.stat(path).st_mode) == 0o640)
+        check("nothing stays beside the file", sorted(os.listdir(f"{room}/places")) == ["dataset.nq", "pipe"])
 
 
 REFUSED_FILES = (
@@ -307,6 +350,9 @@ REFUSED_FILES = (
     ("a graph named by a blank node", ['<http://e/s> <http://e/p> "1" .', '<http://e/s> <http://e/p> "1" _:g .'], 1000, ("line 2:", "_:g")),
     ("a triple larger than a body", ['<http://e/s> <http://e/p> "1" .', '<http://e/s> <http://e/p> "two" .'], 33, ("line 2:", "34")),
     ("an escape for what no IRI has", ['<http://e/s> <http://e/p> "1" <http://e/\\u0020> .'], 1000, ("line 1:", "escape")),
+    *((f"an escape for what is not there: {it}", ['<http://e/s> <http://e/p> "1" .', f"{it} <http://e/g> ."], 1000, ("line 2:", "escape")) for it in (
+        "<http://e/\\u0020> <http://e/p> _:x", "<http://e/s> <http://e/p> <http://e/\\u0020>", '<http://e/s> <http://e/p> "1"^^<http://e/\\u003e>',
+        '<http://e/s> <http://e/p> "\\uD800"', '<http://e/s> <http://e/p> "\\U00110000"', "<\\u00e9:x> <http://e/p> <http://e/o>")),
     ("bytes that are not UTF-8", ['<http://e/s> <http://e/p> "1" .', '<http://e/s> <http://e/p> "\udcff" .'], 1000, ("line 2:", "UTF-8")),
 )
 
@@ -315,7 +361,7 @@ TAKEN_FILE = (
     '<http://e/s><http://e/p>"1"<http://e/g>.\r\n'
     '\r\n'
     '_:x\t<http://e/p>  _:y. # in the default graph\n'
-    '<http://e/s> <http://e/p> "a \\"quoted\\" \\u00e9 <http://e/h> ." <http://e/\\u00e9> .\n'
+    '<http://e/s> <http://e/p> "a \\"quoted\\" \\u00e9 \\\\uD800 <http://e/h> ." <http://e/\\u00e9> .\n'
     '  <http://e/s> <http://e/p> "2"@en-GB <http://e/g> .\n'
     '_:y <http://e/p> _:é.1 .\n'
     '<http://e/s> <http://e/p> "3"^^<http://e/d> <http://e/é> .\n'
@@ -323,7 +369,7 @@ TAKEN_FILE = (
 )
 TAKEN_GRAPHS = {
     "http://e/g": '<http://e/s> <http://e/p> "1" .\n<http://e/s> <http://e/p> "2"@en-gb .\n',
-    "http://e/é": '<http://e/s> <http://e/p> "3"^^<http://e/d> .\n<http://e/s> <http://e/p> "a \\"quoted\\" é <http://e/h> ." .\n',
+    "http://e/é": '<http://e/s> <http://e/p> "3"^^<http://e/d> .\n<http://e/s> <http://e/p> "a \\"quoted\\" é \\\\uD800 <http://e/h> ." .\n',
 }
 
 
@@ -363,18 +409,44 @@ def check_small_files(program, room):
     print(f"files: {len(REFUSED_FILES)} are refused before anything is sent", flush=True)
 
 
+def check_others(program, room):
+    """What others do in the middle of a restore: they write its graph, or start the server again."""
+    path = f"{room}/others.nq"
+    with open(path, "w", encoding="ascii") as file:
+        file.writelines(f'<http://e/s{it}> <http://e/p> "{it}" <http://e/g> .\n' for it in range(20_000))
+    for method, text in (("DELETE", None), ("PUT", b'<http://e/s> <http://e/p> "foreign" .\n')):
+        with Server(program, "--base", BASE) as server:
+            client = Client(server)
+            process = held(server, client, path, "--body", "1000", *ready_options(server))
+            check(f"a foreign {method}", client.ask(method, target_of("http://e/g"), text)[0] == 204)
+            after = client.ask("GET", "/store")
+            process.send_signal(signal.SIGCONT)
+            status, said = ended(process)
+            check(f"a restore ends by a foreign {method}", status == 1 and all(it in said for it in ("<http://e/g>", "412", "another client")), (status, said))
+            check(f"a restore changes nothing after a foreign {method}", client.ask("GET", "/store") == after)
+    with open(path, "w", encoding="ascii") as file:
+        file.writelines(f'<http://e/s> <http://e/p> "{it}" <http://e/g{it}> .\n' for it in range(3_000))
+    with Server(program, "--base", BASE) as server:
+        process = held(server, Client(server), path, *ready_options(server))
+        server.process.kill()
+        server.process.wait()
+        with Server(program, "--base", BASE, port=server.port) as another:
+            process.send_signal(signal.SIGCONT)
+            status, said = ended(process)
+            # Where it was held in the middle of a request, that one failed.
+            check("a restore ends where the server was started again", status == 1 and ("started again" in said or "failed" in said), (status, said))
+            check("a server that was started again is not ready", Client(another).ask("HEAD", "/store?graph=" + READY)[0] == 404)
+    print("others in the middle of a restore: it ends with status 1", flush=True)
+
+
 def check_ready(program, room, first):
     """The graph that is written last."""
     path = f"{room}/ready.nq"
     target = "/store?graph=" + READY
     with Server(program, "--base", BASE) as server:
         client = Client(server)
-        process = restore(server, first, *ready_options(server))
-        while client.ask("HEAD", "/store")[2] == 0 and process.poll() is None:
-            time.sleep(0.005)
-        # It is held where it is, so that what follows is in the middle of it.
-        process.send_signal(signal.SIGSTOP)
-        check("in the middle of a restore the graph is missing", process.poll() is None and client.ask("HEAD", target)[0] == 404)
+        process = held(server, client, first, *ready_options(server))
+        check("in the middle of a restore the graph is missing", client.ask("HEAD", target)[0] == 404)
         status, said = ended(save(server, path, ready=True))
         check("a save in the middle of a restore is refused", status == 1 and "404" in said and not os.path.exists(path), (status, said))
         process.send_signal(signal.SIGCONT)
@@ -397,6 +469,10 @@ def check_ready(program, room, first):
     with Server(program, "--base", BASE) as server:
         client = Client(server)
         client.write("PUT", target, '<http://e/s> <http://e/p> "from before" .\n')
+        before = client.ask("GET", "/store")
+        status, said = ended(restore(server, path))
+        check("a file that has the graph wants --ready", status == 2 and READY in said and "--ready" in said, (status, said))
+        check("without --ready nothing was sent", client.ask("GET", "/store") == before)
         status, said = ended(restore(server, path, *ready_options(server)))
         check("a restore of a file that has the graph", status == 0, said)
         after = client.ask("GET", target)[1].decode()
@@ -408,7 +484,9 @@ def main(program, triples):
     with tempfile.TemporaryDirectory() as room:
         first = check_same(program, room, int(triples))
         check_ended_saves(program, room, first)
+        check_places(program, room)
         check_small_files(program, room)
+        check_others(program, room)
         check_ready(program, room, first)
     if wrong:
         raise SystemExit(f"wrong: {', '.join(wrong)}")

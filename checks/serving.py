@@ -5,11 +5,11 @@ import subprocess
 
 
 class Server:
-    """Starts PROGRAM --listen on a free port, with these options more, and so many bytes of addresses at most where they are said, as
-    a process with what more is said; the block's end ends it."""
+    """Starts PROGRAM --listen on this port, or on a free one, with these options more, and so many bytes of addresses at most where they are
+    said, as a process with what more is said; the block's end ends it."""
 
-    def __init__(self, program, *options, addresses=None, **more):
-        self.words = [program, "--listen", "127.0.0.1:0", *options]
+    def __init__(self, program, *options, port=0, addresses=None, **more):
+        self.words = [program, "--listen", f"127.0.0.1:{port}", *options]
         self.more = more
         if addresses:
             self.more["preexec_fn"] = lambda: resource.setrlimit(resource.RLIMIT_AS, (addresses, addresses))

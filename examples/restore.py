@@ -3,17 +3,20 @@
 FILE is N-Quads, as save.sh keeps them or from elsewhere; SERVER is an address as http://localhost:8080. Each graph of the file replaces the
 graph of its name. Graphs that the file has no line of stay as they are.
 
-The file is read twice. First each line is checked, and where one is wrong nothing is sent. Then the lines are sent in bodies of BYTES at
-most (67,108,864 where none is said, the most that a server takes): of each graph a PUT, and POSTs where there is more. A label of a blank
-node is one node within one body alone. So lines that share labels, directly or through other lines, go into one body, wherever they stand. The
-file is refused where they are longer than a body, and where a label stands in two graphs. A file whose graphs stand in runs of lines takes
-the fewest requests.
+The file is read twice. First each line is checked, and where one is wrong nothing is sent. That a term has more than 65,535 bytes is found
+by the server alone. A line ends with LF or CR LF, and not with CR alone. Then the lines are sent in bodies of BYTES at most (67,108,864 where
+none is said, the most that a server takes): of each graph a PUT, and POSTs where there is more. A label of a blank node is one node within
+one body alone. So lines that share labels, directly or through other lines, go into one body, wherever they stand. The file is refused where
+they are longer than a body, and where a label stands in two graphs. A file whose graphs stand in runs of lines takes the fewest requests. One
+without a triple takes none, also where no server is there.
 
 URL is the address of a graph that says that all is there, SERVER/store?graph=NAME. It is taken away first, and written last, with the time.
-Its lines in the file are left out.
+Its lines in the file are left out. Where no URL is said, a file that has such a graph is refused. Where one is, SERVER has to be one server,
+and no balancer of several.
 
-The status is 0 where all is in, 1 where the server refused something or was not there, and 2 where the file or the arguments are wrong.
-What was sent before a refusal stays in the server. It wants Python 3.9 or later, and nothing else."""
+The status is 0 where all is in, 1 where the server refused something or was not there, and 2 where the file or the arguments are wrong. It is
+1 too where another client wrote a graph between two of its bodies, and with URL where the server was started again meanwhile. What was sent
+before a refusal stays in the server. It wants Python 3.9 or later, and nothing else."""
 import argparse
 import array
 import datetime
@@ -39,6 +42,14 @@ BLOCK_BYTES = 16_384
 PATIENCE_SECONDS = 600
 
 N_TRIPLES = "application/n-triples"
+
+# The triple that says that all is there: the name of its graph, and the time between these two.
+READY_BEGIN = b' <http://purl.org/dc/terms/available> "'
+READY_END = b'Z"^^<http://www.w3.org/2001/XMLSchema#dateTime> .\n'
+
+# What a status says that a restore has no other reason for.
+REASONS = {201: ", since the graph was gone", 412: ", since another client wrote the graph meanwhile"}
+
 FAILURES = (OSError, http.client.HTTPException)
 
 # N-Quads (25 February 2014), section 4. Each IRI is absolute, though escapes may stand in its scheme.
@@ -69,6 +80,8 @@ PARTS = [
     (re.compile(rf"(?:(?:{IRI}|{LABEL}){SPACE})?"), ""),
     (re.compile(rf"\.{SPACE}"), "neither the name of a graph, an absolute IRI, nor a dot after the object"),
 ]
+# The terms of a triple that may have escapes.
+TERM = re.compile(rf"{IRI}|{STRING}")
 NAME = re.compile(rf"[A-Za-z][A-Za-z0-9+.-]*:(?:(?![\ud800-\udfff]){IRI_CHARACTER})*")
 
 
@@ -101,21 +114,28 @@ class Progress:
 
 
 class Graph:
-    """A graph of the file: its name, or None; where it is in the server; and whether a body of it was sent."""
+    """A graph of the file: its name, or None; where it is in the server; whether a body of it was sent; and the number of the last one's commit,
+    or 0."""
 
     def __init__(self, name):
         self.name = name
         self.target = "/store?default" if name is None else "/store?graph=" + urllib.parse.quote(name, safe=":/")
-        self.is_begun = False
+        self.is_begun, self.commit = False, 0
 
     def __str__(self):
         return "the default graph" if self.name is None else f"<{self.name}>"
 
 
 def character_of(escape):
-    """The character of an escape; one that is in no name where it has none."""
+    """The character of an escape of its number; where it has none, one that is in no text."""
     number = int(escape[0][2:], 16)
-    return chr(number) if number < 0x110000 else "\0"
+    return chr(number) if number < 0x110000 else "\ud800"
+
+
+def has_characters(term):
+    """Whether the escapes of an IRI or a string stand for characters that may be there."""
+    text = re.sub(STRING_ESCAPE, lambda it: character_of(it) if it[0][1] in "uU" else " ", term)
+    return bool(NAME.fullmatch(text[1:-1])) if term[0] == "<" else not re.search("[\ud800-\udfff]", text)
 
 
 class Graphs:
@@ -157,9 +177,9 @@ def fault_of(text):
 
 
 def is_plain(block):
-    """Whether each line is a triple without blank nodes in a graph with a name, with single spaces."""
+    """Whether each line is a triple without blank nodes and escaped numbers in a graph with a name, with single spaces."""
     try:
-        return PLAIN.fullmatch(block.decode()) is not None
+        return not re.search(rb"\\[uU]", block) and PLAIN.fullmatch(block.decode()) is not None
     except UnicodeDecodeError:
         return False
 
@@ -178,6 +198,8 @@ def triple_of(data, line):
     triple, subject, value, name, label = found.groups()
     if label:
         raise Stop(2, f"line {line}: the graph is named by a blank node, {label}, and a server has no such graphs")
+    if triple and ("\\u" in triple or "\\U" in triple) and not all(map(has_characters, TERM.findall(triple))):
+        raise Stop(2, f"line {line}: an escape for no character, or for one that no IRI has")
     return triple and (triple.encode() + b" .\n", [it for it in (subject, value) if it] if subject or value else (), name)
 
 
@@ -319,11 +341,13 @@ class Server:
 
     def __init__(self, url):
         parts = urllib.parse.urlsplit(url)
-        if parts.scheme not in ("http", "https") or not parts.hostname or parts.query or parts.fragment:
+        if parts.scheme not in ("http", "https") or not parts.hostname or "@" in parts.netloc or parts.query or parts.fragment:
             raise ValueError(url)
         kind, port = (http.client.HTTPSConnection, 443) if parts.scheme == "https" else (http.client.HTTPConnection, 80)
         self.connection = kind(parts.hostname, parts.port or port, timeout=PATIENCE_SECONDS)
         self.path = parts.path
+        # The number of the last reply, and whether any was lower than it can be.
+        self.commit, self.is_another = 0, False
 
     def begin(self, method, graph, fields):
         """Begins a request. A kept connection that the server has ended since can be read from, and is made anew."""
@@ -333,6 +357,8 @@ class Server:
         self.connection.putrequest(method, self.path + graph.target, skip_accept_encoding=True)
         for name, value in fields.items():
             self.connection.putheader(name, value)
+        if method == "POST" and graph.commit:
+            self.connection.putheader("If-Store-Commit", graph.commit)
         self.connection.endheaders()
 
     def send(self, data):
@@ -342,6 +368,10 @@ class Server:
         """The status of the reply, which is read whole."""
         reply = self.connection.getresponse()
         reply.read()
+        # A write has a greater number than all before it. A server that was started again counts from 0.
+        number = int(reply.getheader("Store-Commit", "0"))
+        least = self.commit + 1 if number and reply.status in (201, 204) else self.commit
+        self.commit, self.is_another = number, self.is_another or number < least
         return reply.status
 
     def ask(self, method, graph, data=None):
@@ -364,7 +394,7 @@ class Server:
             if status is None:
                 raise Stop(1, f"{what} failed: {error or type(error).__name__}") from None
         if status not in statuses:
-            raise Stop(1, f"{what} is answered {status}")
+            raise Stop(1, f"{what} is answered {status}{REASONS.get(status, '')}")
 
 
 class Bodies:
@@ -413,7 +443,8 @@ class Bodies:
 
     def end(self):
         if self.graph:
-            self.server.do(self.finish, self, 201, 204)
+            self.server.do(self.finish, self, *((201, 204) if self.method == "PUT" else (204,)))
+            self.graph.commit = self.server.commit
             self.graph, self.many = None, self.many + 1
 
 
@@ -423,6 +454,8 @@ def checked(source, ready, limit):
     for line, data, graph, labels, offset, size in source.lines("checking"):
         if len(data) > limit:
             raise Stop(2, f"line {line}: its triple has {len(data)} bytes, and a body has {limit}")
+        if not ready and data.endswith(READY_END) and data.startswith(str(graph).encode() + READY_BEGIN):
+            raise Stop(2, f"line {line}: {graph} says that all is there, and so it is written last: say --ready with its address")
         if labels and graph is not ready:
             groups.add(labels, graph, line, offset, size, len(data))
     groups.refuse_larger(limit)
@@ -456,9 +489,12 @@ def restore(server, file, limit, ready_name):
         server.do(lambda: server.ask("DELETE", ready), f"{ready}: the DELETE", 204, 404)
     send(source, groups, ready, bodies)
     if ready:
-        now = datetime.datetime.now(datetime.timezone.utc).strftime("%Y-%m-%dT%H:%M:%S.%fZ")
-        triple = f'{ready} <http://purl.org/dc/terms/available> "{now}"^^<http://www.w3.org/2001/XMLSchema#dateTime> .\n'
-        server.do(lambda: server.ask("PUT", ready, triple.encode()), f"{ready}: the PUT", 201, 204)
+        server.do(lambda: server.ask("HEAD", ready), f"{ready}: the HEAD", 200, 404)
+        if server.is_another:
+            raise Stop(1, "the server was started again meanwhile, and not all is in")
+        now = datetime.datetime.now(datetime.timezone.utc).strftime("%Y-%m-%dT%H:%M:%S.%f")
+        triple = str(ready).encode() + READY_BEGIN + now.encode() + READY_END
+        server.do(lambda: server.ask("PUT", ready, triple), f"{ready}: the PUT", 201, 204)
     begun = sum(it.is_begun for it in graphs.all())
     say(f"lines {bodies.lines}, graphs {begun}, requests {bodies.many}")
 
