@@ -36,10 +36,20 @@ def below(name, named):
     return found
 
 
-def edits_of(crate):
-    folder = f"{TOP}/crates/{crate}/must-fail"
+def edits_in(folder):
+    """The edits of a folder, by their names."""
     names = sorted(os.listdir(folder)) if os.path.isdir(folder) else []
     return {it.removesuffix(".edit"): text(f"{folder}/{it}") for it in names if it.endswith(".edit")}
+
+
+def edits_beside(crate):
+    """The edits of a crate that the gate does not try."""
+    return edits_in(f"{TOP}/checks/edits/{crate}")
+
+
+def edits_of(crate):
+    """All edits of a crate, those of the gate and those beside it."""
+    return edits_in(f"{TOP}/crates/{crate}/must-fail") | edits_beside(crate)
 
 
 def pairs_of(edit):
@@ -118,37 +128,44 @@ def copied(crates, room):
         file.writelines(f"{line}\n" for line in text(f"{TOP}/crates.txt").split("\n") if re.match(r"\w*", line)[0] in crates)
 
 
-def tried(crate, twins, named):
-    """Tries the twins of a crate: what was said of each, and whether it was accepted."""
-    with tempfile.TemporaryDirectory(prefix="twins-") as room:
+def tried(crate, edits, named):
+    """Tries these edits of a crate in a copy: what was said of each."""
+    with tempfile.TemporaryDirectory(prefix="edits-") as room:
         copied(below(crate, named), room)
         os.mkdir(f"{room}/crates/{crate}/must-fail")
-        for name, twin in twins.items():
+        for name, edit in edits.items():
             with open(f"{room}/crates/{crate}/must-fail/{name}.edit", "w", encoding="utf-8") as file:
-                file.write(twin)
+                file.write(edit)
         lanes = sorted(os.sched_getaffinity(0))[-LANES:]
         how = {"cwd": room, "stdin": subprocess.DEVNULL, "stdout": subprocess.PIPE, "stderr": subprocess.STDOUT, "errors": "replace"}
         ran = subprocess.run(["rt", "must-fail", crate], preexec_fn=lambda: os.sched_setaffinity(0, lanes), **how)
     said = dict(re.findall(rf"(?m)^(?:rt: )?must-fail {crate}/(\w+)\.edit: (.*)$", ran.stdout))
-    for name in twins:
+    for name in edits:
         if name not in said:
             print(ran.stdout[-2000:])
-        yield name, said.get(name, "NOT TRIED"), said.get(name, "").startswith("NOT REFUSED")
+        yield name, said.get(name, "NOT TRIED")
 
 
-def main(names):
+def begun(script, names):
+    """The crates with those that each names, where those of the command line are among them."""
     named = uses()
     lacking = [it for it in names if it not in named]
     if lacking:
-        print(f"usage: twins.sh [NAME..]; crates.txt has no crate {lacking[0]}", file=sys.stderr)
-        return 2
-    accepted, refused, bare = 0, 0, []
+        print(f"usage: {script} [NAME..]; crates.txt has no crate {lacking[0]}", file=sys.stderr)
+        sys.exit(2)
     # ended early, it takes its copies along
     signal.signal(signal.SIGTERM, lambda *_: sys.exit(143))
+    return named
+
+
+def main(names):
+    named = begun("twins.sh", names)
+    accepted, refused, bare = 0, 0, []
     for crate in names or named:
         edits = edits_of(crate)
         twins = {name: twin for name, edit in edits.items() for twin in [twin_of(edit)] if twin}
-        for name, what, is_accepted in tried(crate, twins, named) if twins else ():
+        for name, what in tried(crate, twins, named) if twins else ():
+            is_accepted = what.startswith("NOT REFUSED")
             print(f"{crate}/{name}: {'its twin is accepted' if is_accepted else f'its twin is not accepted: {what}'}", flush=True)
             accepted, refused = accepted + is_accepted, refused + (not is_accepted)
         for name, edit in edits.items():

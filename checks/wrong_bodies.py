@@ -1,6 +1,6 @@
-"""Fills the table of docs/WRONG_BODIES.md from the edits that must fail: wrong_bodies.py [--check].
+"""Fills the tables of docs/WRONG_BODIES.md from the edits that must fail: wrong_bodies.py [--check].
 
-An edit begins with the promise that it breaks, in lines that begin with `# `; the table has that promise and the edit's crate, in the
+The first table has the edits that the gate tries, in the crates' folders, the second those of `checks/edits`. An edit begins with the promise that it breaks, in lines that begin with `# `; the table has that promise and the edit's crate, in the
 order of crates.txt and then of names. What refuses the edit, the last column, is written in the page alone: the script keeps it, and
 leaves it empty for a new edit. With `--check` it changes nothing, says where the page differs, which row has no last column, and
 which name of one is in no code and no definition, and ends with status 1 if there is any."""
@@ -12,6 +12,9 @@ import sys
 
 TOP = os.path.join(os.path.dirname(os.path.abspath(__file__)), "..")
 PAGE = "docs/WRONG_BODIES.md"
+# where the edits of each table stand
+FOLDERS = ("crates/{}/must-fail", "checks/edits/{}")
+TABLE = re.compile(r"(?m)^(\| Edit \|.*\n\|[-|]+\n)(?:^\|.*\n)*")
 ROW = re.compile(r"(?m)^\| `(\w+)` \| `(\w+)` \|.* \| ?(.*?) ?\|\n")
 
 
@@ -27,21 +30,20 @@ def promise(path):
     return words[:1].upper() + words[1:]
 
 
-def rows(page):
-    """The rows that the table has to have, each with what the page says in its last column."""
+def rows(page, folder):
+    """The rows that the table of a folder has to have, each with what the page says in its last column."""
     refused_by = {(crate, edit): said for edit, crate, said in ROW.findall(page) if said}
     for crate in re.findall(r"(?m)^(\w+)[^:#\n]*:", text("crates.txt")):
-        for path in sorted(glob.glob(os.path.join(TOP, "crates", crate, "must-fail", "*.edit"))):
+        for path in sorted(glob.glob(os.path.join(TOP, folder.format(crate), "*.edit"))):
             edit = os.path.basename(path).removesuffix(".edit")
             said = refused_by.get((crate, edit), "")
             yield edit, crate, f"| `{edit}` | `{crate}` | {promise(path)} | {said} |\n".replace("|  |", "| |"), said
 
 
 def filled(page):
-    """The page with the table as it has to be."""
-    table = re.search(r"(?m)^\| Edit \|.*\n\|[-|]+\n(?:^\|.*\n)*", page)
-    head = "".join(table[0].splitlines(True)[:2])
-    return page[: table.start()] + head + "".join(row for _, _, row, _ in rows(page)) + page[table.end() :]
+    """The page with the tables as they have to be."""
+    folders = iter(FOLDERS)
+    return TABLE.sub(lambda table: table[1] + "".join(row for _, _, row, _ in rows(page, next(folders))), page)
 
 
 @functools.cache
@@ -60,7 +62,7 @@ def differences():
         found += [f"{PAGE} lacks {it}" for it in right if it not in there] + [f"{PAGE} has {it}" for it in there if it not in right]
         found += [] if found else [f"{PAGE} has its rows in another order than crates.txt and the names of edits, or one twice"]
         found.append("python3 checks/wrong_bodies.py puts them right")
-    for edit, crate, _, said in rows(page):
+    for edit, crate, _, said in (row for folder in FOLDERS for row in rows(page, folder)):
         if not said:
             found.append(f"{PAGE} does not say what refuses {edit} of {crate}")
         for name in re.findall(r"`([^`]+)`", said):

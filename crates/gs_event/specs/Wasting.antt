@@ -1,5 +1,5 @@
 -- What an action makes of the waste of nodes and of records: what joins it, and with which lifetimes.
-use Rattle.std.specs.Prelude.{◌≡◌, ◌<◌, ◌≤◌, ◌⊎◌, ℕ, ◌+◌, ◌*◌, Bool, true, false, if◌then◌else◌, List, length, Option, Some, None}
+use Rattle.std.specs.Prelude.{◌≡◌, ◌<◌, ◌≤◌, ◌⊎◌, ℕ, ◌+◌, ◌*◌, Bool, true, false, List, length, Option, Some, None}
 use Rattle.std.specs.List.{sum_by, All}
 use Rattle.gs_model.specs.Graphs.{Graph, size_of}
 use Rattle.gs_term.specs.declared.names.Target.{Target}
