@@ -7,6 +7,8 @@ here=$(cd "$(dirname "$0")" && pwd)
 top=$(dirname "$here")
 gsd=${1:-$top/crates/gsd/out/gsd}
 gsdrill=${2:-$top/crates/gsdrill/out/gsdrill}
+# a name alone is a file of this folder, and no program of the path
+case $gsd in */*) ;; *) gsd=./$gsd ;; esac
 stop() { echo "build.sh: $1" >&2; exit 1; }
 for tool in dpkg-deb objdump gzip; do
     command -v "$tool" > /dev/null || stop "$tool is missing (Debian's packages dpkg, binutils and gzip)"
