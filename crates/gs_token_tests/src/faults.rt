@@ -1,37 +1,39 @@
 //! Texts of Turtle that have a fault, in pieces of any size.
-use crate::readings::has_fault;
+use crate::readings::has_tokens;
+use crate::rows::{Of, wrong_row};
 use std::alloc::Global;
-use std::test::Fail;
 
-/// A name, a text, and the number of bytes up to the end of the last token before its fault.
-type Row = (&'static str, &'static [u8], u64);
+/// What a text has that is wrong, and the number of bytes up to the end of the last token before it.
+const FAULTS: &str = "\
+    a word that the grammar does not have§Syntax(1) →a b¦\
+    such a word after words and dots§Syntax(9) →a.a.true.b.a ¦\
+    a long string that does not end§Syntax(1) →a \"\"\"b\"\"¦\
+    a line feed in a short string§Syntax(3) →<a> 'b\n'¦\
+    an escape of strings in an IRI§Syntax(0) →<a\\n>¦\
+    a space in an IRI§Syntax(0) →<b c>¦\
+    half a percent escape§Syntax(3) →a:b%4¦\
+    a brace, outside updates§Syntax(1) →a {¦\
+    a variable, outside updates§Syntax(1) →a ?x¦\
+";
 
-const FAULTS: [Row; 11] = [
-    ("a word that the grammar does not have", b"a b", 1),
-    ("such a word after words and dots", b"a.a.true.b.a ", 9),
-    ("a long string that does not end", b"a \"\"\"b\"\"", 1),
-    ("a line feed in a short string", b"<a> 'b\n'", 3),
-    ("an escape of strings in an IRI", b"<a\\n>", 0),
-    ("a space in an IRI", b"<b c>", 0),
-    ("a comment that is no UTF-8", b"a # \xff\n", 1),
-    ("the front of a character at the end", b". \xc3", 1),
-    ("half a percent escape", b"a:b%4", 3),
-    ("a brace, outside updates", b"a {", 1),
-    ("a variable, outside updates", b"a ?x", 1),
-];
-
-/// The name of the first text that has no fault, or one at another place.
-fn wrong_row(alloc: Global, rows: &[Row]) -> Option<&'static str> {
-    for (name, text, at) in rows {
-        if !has_fault(alloc, text, *at) {
-            return Some(name);
-        }
+/// Which of two texts that are no UTF-8 has not its fault.
+fn wrong_bytes(alloc: Global) -> Option<&'static str> {
+    if !has_tokens(alloc, false, b"a # \xff\n", "Syntax(1) ", "") {
+        return Some("a comment that is no UTF-8");
+    }
+    if !has_tokens(alloc, false, b". \xc3", "Syntax(1) ", "") {
+        return Some("the front of a character at the end");
     }
     None
 }
 
+/// The first text that has no fault, or one at another place.
+fn wrong_fault(alloc: Global) -> Option<&'static str> {
+    let turtle = Of::Tokens { updates: false };
+    wrong_row(alloc, turtle, FAULTS, '¦', 9).or(wrong_bytes(alloc))
+}
+
 #[test]
-fn a_fault_has_the_place_of_the_last_token_before_it(rt: HostRuntime) -> Result<(), Fail> {
-    assert_eq!(rt; wrong_row(rt.alloc(), &FAULTS), None);
-    Ok(())
+fn a_fault_has_the_place_of_the_last_token_before_it(rt: HostRuntime) {
+    assert_eq!(rt; wrong_fault(rt.alloc()), None);
 }

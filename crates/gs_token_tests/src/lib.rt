@@ -10,6 +10,8 @@ mod pieces;
 #[cfg(test)]
 mod readings;
 #[cfg(test)]
+mod rows;
+#[cfg(test)]
 mod terminals;
 #[cfg(test)]
 mod texts;

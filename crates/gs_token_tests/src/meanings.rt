@@ -1,127 +1,104 @@
 //! Rows of texts and what they mean.
-
+use crate::readings::is_joined;
+use crate::rows::{Of, wrong_row};
 use gs_escape::{iri, local, parts, string};
 use gs_model::Refusal;
 use std::alloc::{AllocError, Global};
-use std::test::Fail;
-
-/// A text, and what it means, if anything.
-type Row = (&'static [u8], Option<&'static str>);
 
 /// References between brackets (Turtle, sections 6.3 and 6.4).
-const IRIS: [Row; 24] = [
-    (
-        b"<http://example.org/#green-goblin>",
-        Some("http://example.org/#green-goblin"),
-    ),
-    (b"<>", Some("")),
-    (b"<#a>", Some("#a")),
-    (
-        b"<http://a.example/%66oo-bar>",
-        Some("http://a.example/%66oo-bar"),
-    ),
-    (b"<http://e/\\u00E9>", Some("http://e/\u{e9}")),
-    (
-        b"<http://e/\\u00e9\\u4E2d>",
-        Some("http://e/\u{e9}\u{4e2d}"),
-    ),
-    (b"<http://e/\\U0001F600x>", Some("http://e/\u{1f600}x")),
-    (b"<\\u0061\\u0062>", Some("ab")),
-    (b"<\\U0010FFFF>", Some("\u{10ffff}")),
-    (b"<\\uD7FF\\uE000>", Some("\u{d7ff}\u{e000}")),
-    (b"<\\U00110000>", None),
-    (b"<\\UFFFFFFFF>", None),
-    (b"<\\uD800>", None),
-    (b"<\\uDFFF>", None),
-    (b"<a\\u0020b>", None),
-    (b"<a\\u003Eb>", None),
-    (b"<a\\u005Cb>", None),
-    (b"<a\\nb>", None),
-    (b"<a\\u00Eg>", None),
-    (b"<a\\U0000E9>", None),
-    (b"<a b>", None),
-    (b"<a", None),
-    (b"<", None),
-    (b"\"a\"", None),
-];
+const IRIS: &str = "\
+    http://example.org/#green-goblin→<http://example.org/#green-goblin>¦\
+    →<>¦\
+    #a→<#a>¦\
+    http://a.example/%66oo-bar→<http://a.example/%66oo-bar>¦\
+    http://e/\u{e9}→<http://e/\\u00E9>¦\
+    http://e/\u{e9}\u{4e2d}→<http://e/\\u00e9\\u4E2d>¦\
+    http://e/\u{1f600}x→<http://e/\\U0001F600x>¦\
+    ab→<\\u0061\\u0062>¦\
+    \u{10ffff}→<\\U0010FFFF>¦\
+    \u{d7ff}\u{e000}→<\\uD7FF\\uE000>¦\
+    Syntax(0)→<\\U00110000>¦\
+    Syntax(0)→<\\UFFFFFFFF>¦\
+    Syntax(0)→<\\uD800>¦\
+    Syntax(0)→<\\uDFFF>¦\
+    Syntax(0)→<a\\u0020b>¦\
+    Syntax(0)→<a\\u003Eb>¦\
+    Syntax(0)→<a\\u005Cb>¦\
+    Syntax(0)→<a\\nb>¦\
+    Syntax(0)→<a\\u00Eg>¦\
+    Syntax(0)→<a\\U0000E9>¦\
+    Syntax(0)→<a b>¦\
+    Syntax(0)→<a¦\
+    Syntax(0)→<¦\
+    Syntax(0)→\"a\"¦\
+";
 
 /// String literals (Turtle, sections 2.5.1 and 6.4).
-const STRINGS: [Row; 36] = [
-    (b"\"That Seventies Show\"", Some("That Seventies Show")),
-    (b"'That Seventies Show'", Some("That Seventies Show")),
-    (b"\"\"", Some("")),
-    (b"''", Some("")),
-    (b"\"\"\"\"\"\"", Some("")),
-    (b"''''''", Some("")),
-    (b"'\"'", Some("\"")),
-    (b"\"it's\"", Some("it's")),
-    (
-        b"\"\\t\\b\\n\\r\\f\\\"\\'\\\\\"",
-        Some("\t\u{8}\n\r\u{c}\"'\\"),
-    ),
-    (
-        b"'\\t\\b\\n\\r\\f\\\"\\'\\\\'",
-        Some("\t\u{8}\n\r\u{c}\"'\\"),
-    ),
-    (b"\"\"\"a\\\"\"\"\"", Some("a\"")),
-    (b"\"\"\"\"a\"\"b\"\"\"", Some("\"a\"\"b")),
-    (b"\"\"\"\"\"a\"\"\"", Some("\"\"a")),
-    (
-        b"'''many quotes (\"\"\"\"\")\nand two apostrophes ('').'''",
-        Some("many quotes (\"\"\"\"\")\nand two apostrophes ('')."),
-    ),
-    (b"\"\\u0000\"", Some("\u{0}")),
-    (b"\"\\u00E9\\U0001F600\"", Some("\u{e9}\u{1f600}")),
-    (b"\"\\u0022\"", Some("\"")),
-    (b"\"\\u00E9E9\"", Some("\u{e9}E9")),
-    (b"\"%66\"", Some("%66")),
-    (b"\"\xC3\xA9\"", Some("\u{e9}")),
-    (b"\"\\uD800\"", None),
-    (b"\"\\uDBFF\\uDC00\"", None),
-    (b"\"\\U00110000\"", None),
-    (b"\"\\a\"", None),
-    (b"\"\\u12\"", None),
-    (b"\"\\\"", None),
-    (b"\"a\"b\"", None),
-    (b"\"a\nb\"", None),
-    (b"'a\rb'", None),
-    (b"\"\"\"a\"\"\"\"", None),
-    (b"\"\"\"a\"\"\"b\"\"\"", None),
-    (b"\"\"\"", None),
-    (b"\"a'", None),
-    (b"\"", None),
-    (b"<a>", None),
-    (b"\"\xC3\"", None),
-];
+const STRINGS: &str = "\
+    That Seventies Show→\"That Seventies Show\"¦\
+    That Seventies Show→'That Seventies Show'¦\
+    →\"\"¦\
+    →''¦\
+    →\"\"\"\"\"\"¦\
+    →''''''¦\
+    \"→'\"'¦\
+    it's→\"it's\"¦\
+    \t\u{8}\n\r\u{c}\"'\\→\"\\t\\b\\n\\r\\f\\\"\\'\\\\\"¦\
+    \t\u{8}\n\r\u{c}\"'\\→'\\t\\b\\n\\r\\f\\\"\\'\\\\'¦\
+    a\"→\"\"\"a\\\"\"\"\"¦\
+    \"a\"\"b→\"\"\"\"a\"\"b\"\"\"¦\
+    \"\"a→\"\"\"\"\"a\"\"\"¦\
+    many quotes (\"\"\"\"\")\nand two apostrophes ('').→'''many quotes (\"\"\"\"\")\nand two apostrophes ('').'''¦\
+    \u{0}→\"\\u0000\"¦\
+    \u{e9}\u{1f600}→\"\\u00E9\\U0001F600\"¦\
+    \"→\"\\u0022\"¦\
+    \u{e9}E9→\"\\u00E9E9\"¦\
+    %66→\"%66\"¦\
+    \u{e9}→\"\u{e9}\"¦\
+    Syntax(0)→\"\\uD800\"¦\
+    Syntax(0)→\"\\uDBFF\\uDC00\"¦\
+    Syntax(0)→\"\\U00110000\"¦\
+    Syntax(0)→\"\\a\"¦\
+    Syntax(0)→\"\\u12\"¦\
+    Syntax(0)→\"\\\"¦\
+    Syntax(0)→\"a\"b\"¦\
+    Syntax(0)→\"a\nb\"¦\
+    Syntax(0)→'a\rb'¦\
+    Syntax(0)→\"\"\"a\"\"\"\"¦\
+    Syntax(0)→\"\"\"a\"\"\"b\"\"\"¦\
+    Syntax(0)→\"\"\"¦\
+    Syntax(0)→\"a'¦\
+    Syntax(0)→\"¦\
+    Syntax(0)→<a>¦\
+";
 
 /// Local parts of names (Turtle, sections 2.4 and 6.4).
-const LOCALS: [Row; 12] = [
-    (b"", Some("")),
-    (b"video:height", Some("video:height")),
-    (b"lat\\-long", Some("lat-long")),
-    (b"%66oo-bar", Some("%66oo-bar")),
-    (b"\\_\\~\\.\\-\\!\\$\\&\\'\\(\\)", Some("_~.-!$&'()")),
-    (b"\\*\\+\\,\\;\\=\\/\\?\\#\\@\\%", Some("*+,;=/?#@%")),
-    (b"a\\%20", Some("a%20")),
-    (b"\xC3\xA9\\.", Some("\u{e9}.")),
-    (b"a\\n", None),
-    (b"\\u0061", None),
-    (b"a\\", None),
-    (b"\xC3", None),
-];
+const LOCALS: &str = "\
+    →¦\
+    video:height→video:height¦\
+    lat-long→lat\\-long¦\
+    %66oo-bar→%66oo-bar¦\
+    _~.-!$&'()→\\_\\~\\.\\-\\!\\$\\&\\'\\(\\)¦\
+    *+,;=/?#@%→\\*\\+\\,\\;\\=\\/\\?\\#\\@\\%¦\
+    a%20→a\\%20¦\
+    \u{e9}.→\u{e9}\\.¦\
+    Syntax(0)→a\\n¦\
+    Syntax(0)→\\u0061¦\
+    Syntax(0)→a\\¦\
+";
 
 /// Names, parted at their first colon.
-const PARTS: [(&[u8], Option<(&[u8], &[u8])>); 5] = [
-    (b"foaf:name", Some((b"foaf", b"name"))),
-    (b":", Some((b"", b""))),
-    (b"ex:", Some((b"ex", b""))),
-    (b"og:video:height", Some((b"og", b"video:height"))),
-    (b"a", None),
-];
+const PARTS: &str = "\
+    foaf/name→foaf:name¦\
+    /→:¦\
+    ex/→ex:¦\
+    og/video:height→og:video:height¦\
+    none→a¦\
+";
 
 /// What a text is.
 #[derive(Clone, Copy)]
-enum Form {
+pub enum Form {
     Iri,
     String,
     Local,
@@ -135,66 +112,62 @@ fn read(form: Form, text: &[u8], left: &mut String) -> Result<(), Refusal> {
     }
 }
 
-/// Whether a call leaves the meaning after what stood there, and where there is none only that.
-fn is_left(reported: Result<(), Refusal>, left: &str, wanted: Option<&str>) -> bool {
-    match wanted {
-        Some(meaning) => reported == Ok(()) && left.strip_prefix("\u{e9}") == Some(meaning),
-        None => reported == Err(Refusal::Syntax(0)) && left == "\u{e9}",
+/// Writes a character and what a text means after it, or why it means nothing after what is left.
+fn tell(form: Form, text: &[u8], left: &mut String) -> Result<(), AllocError> {
+    left.push('\u{e9}')?;
+    match read(form, text, left) {
+        Ok(()) => Ok(()),
+        Err(refusal) => write!(left, "{refusal:?}"),
     }
 }
 
-/// Whether a text has this meaning, or none.
-fn is_right(
-    alloc: Global,
-    form: Form,
-    text: &[u8],
-    wanted: Option<&str>,
-) -> Result<bool, AllocError> {
-    let mut left = String::from_str(alloc, "\u{e9}")?;
-    let reported = read(form, text, &mut left);
-    Ok(is_left(reported, left.as_str(), wanted))
+/// Whether a call leaves the meaning that is said after what stood there, and where there is none only
+/// that.
+pub fn is_meant(alloc: Global, form: Form, text: &[u8], said: &str) -> bool {
+    let mut left = String::new(alloc);
+    let told = tell(form, text, &mut left);
+    let is = told.is_ok() && is_joined(left.as_str(), "\u{e9}", said);
+    drop(left);
+    is
 }
 
-/// The first text that means something else.
-fn wrong_row(alloc: Global, form: Form, rows: &[Row]) -> Result<Option<&'static [u8]>, AllocError> {
-    for (text, wanted) in rows {
-        if !is_right(alloc, form, text, *wanted)? {
-            return Ok(Some(text));
-        }
+/// Whether a name has these parts.
+fn has_parts(text: &[u8], prefix: &str, rest: &str) -> bool {
+    match parts(text) {
+        Some((front, back)) => front == prefix.as_bytes() && back == rest.as_bytes(),
+        None => false,
     }
-    Ok(None)
 }
 
-/// The first name that is parted elsewhere.
-fn wrong_name() -> Option<&'static [u8]> {
-    for row in &PARTS {
-        let (text, wanted) = *row;
-        if parts(text) != wanted {
-            return Some(text);
-        }
+/// Whether a name has the parts that are said.
+pub fn is_parted(text: &[u8], said: &str) -> bool {
+    match said.split_once('/') {
+        Some((prefix, rest)) => has_parts(text, prefix, rest),
+        None => parts(text).is_none(),
+    }
+}
+
+/// Which of two texts that are no UTF-8 means something.
+fn wrong_bytes(alloc: Global) -> Option<&'static str> {
+    if !is_meant(alloc, Form::String, b"\"\xC3\"", "Syntax(0)") {
+        return Some("the front of a character in a string");
+    }
+    if !is_meant(alloc, Form::Local, b"\xC3", "Syntax(0)") {
+        return Some("the front of a character in a local part");
     }
     None
 }
 
-#[test]
-fn iris(rt: HostRuntime) -> Result<(), Fail> {
-    assert_eq!(rt; wrong_row(rt.alloc(), Form::Iri, &IRIS)?, None);
-    Ok(())
+/// The first row that is wrong.
+fn wrong_meaning(alloc: Global) -> Option<&'static str> {
+    wrong_row(alloc, Of::Meaning(Form::Iri), IRIS, '¦', 24)
+        .or(wrong_row(alloc, Of::Meaning(Form::String), STRINGS, '¦', 35))
+        .or(wrong_row(alloc, Of::Meaning(Form::Local), LOCALS, '¦', 11))
+        .or(wrong_row(alloc, Of::Parts, PARTS, '¦', 5))
+        .or(wrong_bytes(alloc))
 }
 
 #[test]
-fn strings(rt: HostRuntime) -> Result<(), Fail> {
-    assert_eq!(rt; wrong_row(rt.alloc(), Form::String, &STRINGS)?, None);
-    Ok(())
-}
-
-#[test]
-fn locals(rt: HostRuntime) -> Result<(), Fail> {
-    assert_eq!(rt; wrong_row(rt.alloc(), Form::Local, &LOCALS)?, None);
-    Ok(())
-}
-
-#[test]
-fn names_are_parted_at_their_first_colon(rt: HostRuntime) {
-    assert_eq!(rt; wrong_name(), None);
+fn texts_mean_what_is_said(rt: HostRuntime) {
+    assert_eq!(rt; wrong_meaning(rt.alloc()), None);
 }

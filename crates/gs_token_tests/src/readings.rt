@@ -3,10 +3,53 @@ ghost use Rattle.std.specs.Prelude.{◌<◌};
 
 use gs_lex::{Advance, Lexer, Next, PieceLexer, TextLexer, Token, TokenKind};
 use gs_model::Refusal;
-use std::alloc::Global;
+use std::alloc::{AllocError, Global};
+
+/// How a text is read.
+#[derive(Clone, Copy)]
+enum Way {
+    /// By `TextLexer`, whole.
+    Whole,
+    /// By `Lexer`, in pieces of so many bytes.
+    Fed(usize),
+    /// By `PieceLexer`, in pieces of so many bytes.
+    Held(usize),
+    /// By `Lexer`, which is not told that the text has ended: how many tokens it gives.
+    Settled,
+}
+
+const WAYS: [Way; 9] = [
+    Way::Whole,
+    Way::Fed(1000),
+    Way::Held(1000),
+    Way::Fed(1),
+    Way::Held(1),
+    Way::Fed(2),
+    Way::Held(2),
+    Way::Fed(3),
+    Way::Held(3),
+];
+
+/// Writes the name of a kind, and a space.
+fn write_name(names: &mut String, kind: TokenKind) -> Result<(), AllocError> {
+    write!(names, "{kind:?} ")
+}
+
+/// The same of each token.
+fn write_names(tokens: &[Token], names: &mut String) -> Result<(), Refusal> {
+    for token in tokens {
+        write_name(names, token.kind)?;
+    }
+    Ok(())
+}
 
 /// Feeds a text in pieces of so many bytes, and ends it.
-fn cut(lexer: &mut Lexer, text: &[u8], size: usize, tokens: &mut Vec<Token>) -> Result<(), Refusal>
+fn feed_all(
+    lexer: &mut Lexer,
+    text: &[u8],
+    size: usize,
+    tokens: &mut Vec<Token>,
+) -> Result<(), Refusal>
     requires { 0 < size }
 {
     for piece in text.chunks(size) {
@@ -15,41 +58,45 @@ fn cut(lexer: &mut Lexer, text: &[u8], size: usize, tokens: &mut Vec<Token>) -> 
     lexer.finish(tokens)
 }
 
-/// Writes the name of a kind, after a space where names stand before it.
-fn write_name(alloc: Global, names: &mut String, kind: TokenKind) -> Result<(), Refusal> {
-    if !names.is_empty() {
-        names.push(' ')?;
-    }
-    names.push_str(format!(in alloc; "{:?}", kind)?.as_str())?;
-    Ok(())
-}
-
-/// The kinds of tokens, by name, with a space between two.
-fn names_of(alloc: Global, tokens: &[Token]) -> Result<String, Refusal> {
-    let mut names = String::new(alloc);
-    for token in tokens {
-        write_name(alloc, &mut names, token.kind)?;
-    }
-    Ok(names)
-}
-
-/// The kinds of a text's tokens.
-fn kinds_of(alloc: Global, updates: bool, text: &[u8], size: usize) -> Result<String, Refusal>
+/// Writes the names of the tokens of a text, which a lexer is fed.
+fn write_fed(
+    alloc: Global,
+    updates: bool,
+    text: &[u8],
+    size: usize,
+    names: &mut String,
+) -> Result<(), Refusal>
     requires { 0 < size }
 {
     let mut lexer = Lexer::new(alloc, updates);
     let mut tokens = Vec::new(alloc);
-    let read = cut(&mut lexer, text, size, &mut tokens);
+    let fed = feed_all(&mut lexer, text, size, &mut tokens);
     drop(lexer);
-    let names = names_of(alloc, tokens.as_slice());
+    let written = write_names(tokens.as_slice(), names);
     drop(tokens);
-    read?;
-    names
+    fed.and(written)
+}
+
+/// Writes how many tokens a lexer gives of a text that has not ended.
+fn write_settled(
+    alloc: Global,
+    updates: bool,
+    text: &[u8],
+    names: &mut String,
+) -> Result<(), Refusal> {
+    let mut lexer = Lexer::new(alloc, updates);
+    let mut tokens = Vec::new(alloc);
+    let fed = lexer.feed(text, &mut tokens);
+    drop(lexer);
+    let count = tokens.len();
+    drop(tokens);
+    fed?;
+    write!(names, "{count} ")?;
+    Ok(())
 }
 
 /// Writes the names of the tokens that a lexer has for now, or to the end of the text.
-fn write_names(
-    alloc: Global,
+fn write_ahead(
     lexer: &mut PieceLexer,
     is_end: bool,
     most: usize,
@@ -58,7 +105,7 @@ fn write_names(
     // no text has more tokens than bytes
     for _ in 0..most {
         match lexer.advance(is_end) {
-            Advance::Token => write_name(alloc, names, lexer.token().kind)?,
+            Advance::Token => write_name(names, lexer.token().kind)?,
             Advance::Fault(at) => return Err(Refusal::Syntax(at)),
             Advance::Wait | Advance::End => break,
         }
@@ -66,9 +113,8 @@ fn write_names(
     Ok(())
 }
 
-/// Writes the names of all tokens of a text, which a lexer reads in pieces of so many bytes.
-fn write_all(
-    alloc: Global,
+/// Writes the names of the tokens of a text, which a lexer holds in pieces of so many bytes.
+fn write_pieces(
     lexer: &mut PieceLexer,
     text: &[u8],
     size: usize,
@@ -78,93 +124,110 @@ fn write_all(
 {
     for piece in text.chunks(size) {
         lexer.hold(piece)?;
-        write_names(alloc, lexer, false, text.len(), names)?;
+        write_ahead(lexer, false, text.len(), names)?;
     }
-    write_names(alloc, lexer, true, text.len(), names)
+    write_ahead(lexer, true, text.len(), names)
 }
 
-/// The same, token by token.
-fn kinds_one_by_one(
+/// The same, of a new lexer.
+fn write_held(
     alloc: Global,
     updates: bool,
     text: &[u8],
     size: usize,
-) -> Result<String, Refusal>
+    names: &mut String,
+) -> Result<(), Refusal>
     requires { 0 < size }
 {
     let mut lexer = PieceLexer::new(alloc, updates);
-    let mut names = String::new(alloc);
-    let written = write_all(alloc, &mut lexer, text, size, &mut names);
+    let written = write_pieces(&mut lexer, text, size, names);
     drop(lexer);
-    written?;
-    Ok(names)
+    written
 }
 
 /// The same of a text that is at hand whole.
-fn kinds_of_whole(alloc: Global, updates: bool, text: &[u8]) -> Result<String, Refusal> {
+fn write_whole(updates: bool, text: &[u8], names: &mut String) -> Result<(), Refusal> {
     let mut lexer = TextLexer::new(text, updates);
-    let mut names = String::new(alloc);
     // so many calls reach the end
     for _ in 0..=text.len() {
         match lexer.next_token() {
-            Next::Token(token) => write_name(alloc, &mut names, token.kind)?,
+            Next::Token(token) => write_name(names, token.kind)?,
             Next::Fault(at) => return Err(Refusal::Syntax(at)),
             Next::End => break,
         }
     }
-    Ok(names)
+    Ok(())
 }
 
-/// Whether a text in pieces of so many bytes has these tokens.
-fn has_in(
+fn write_by(
     alloc: Global,
+    way: Way,
     updates: bool,
-    text: &str,
-    size: usize,
-    want: &str,
-) -> Result<bool, Refusal>
-    requires { 0 < size }
-{
-    let kinds = kinds_of(alloc, updates, text.as_bytes(), size)?;
-    let are_right = kinds.as_str() == want;
-    drop(kinds);
-    let kinds = kinds_one_by_one(alloc, updates, text.as_bytes(), size)?;
-    Ok(are_right && kinds.as_str() == want)
+    text: &[u8],
+    names: &mut String,
+) -> Result<(), Refusal> {
+    match way {
+        Way::Whole => write_whole(updates, text, names),
+        Way::Fed(size) => write_fed(alloc, updates, text, size.max(1), names),
+        Way::Held(size) => write_held(alloc, updates, text, size.max(1), names),
+        Way::Settled => write_settled(alloc, updates, text, names),
+    }
 }
 
-/// Whether a text has these tokens, whole and in pieces of 1, 2, 3 and 1000 bytes.
-pub fn has_tokens(alloc: Global, updates: bool, text: &str, want: &str) -> Result<bool, Refusal> {
-    let kinds = kinds_of_whole(alloc, updates, text.as_bytes())?;
-    let are_right = kinds.as_str() == want;
-    drop(kinds);
-    Ok(
-        are_right
-            && has_in(alloc, updates, text, 1000, want)?
-            && has_in(alloc, updates, text, 1, want)?
-            && has_in(alloc, updates, text, 2, want)?
-            && has_in(alloc, updates, text, 3, want)?,
-    )
+/// Writes what a reading finds, or why it stops.
+fn tell(
+    alloc: Global,
+    way: Way,
+    updates: bool,
+    text: &[u8],
+    told: &mut String,
+) -> Result<(), AllocError> {
+    match write_by(alloc, way, updates, text, told) {
+        Ok(()) => Ok(()),
+        Err(refusal) => {
+            told.clear();
+            write!(told, "{refusal:?} ")
+        }
+    }
 }
 
-/// Whether a reading has a fault after so many bytes.
-fn is_fault(kinds: Result<String, Refusal>, at: u64) -> bool {
-    kinds.err() == Some(Refusal::Syntax(at))
+/// Whether a text is one and then another.
+pub fn is_joined(text: &str, front: &str, back: &str) -> bool {
+    match text.strip_prefix(front) {
+        Some(rest) => rest == back,
+        None => false,
+    }
 }
 
-/// Whether a text of Turtle in pieces of so many bytes has a fault after so many bytes.
-fn has_fault_in(alloc: Global, text: &[u8], size: usize, at: u64) -> bool
-    requires { 0 < size }
-{
-    is_fault(kinds_of(alloc, false, text, size), at)
-        && is_fault(kinds_one_by_one(alloc, false, text, size), at)
+/// Whether a reading finds what is said, and then this.
+fn is_found(alloc: Global, way: Way, updates: bool, text: &[u8], said: &str, more: &str) -> bool {
+    let mut told = String::new(alloc);
+    let done = tell(alloc, way, updates, text, &mut told);
+    let is = done.is_ok() && is_joined(told.as_str(), said, more);
+    drop(told);
+    is
 }
 
-/// Whether a text of Turtle has a fault after so many bytes, whole and in pieces of 1, 2, 3 and 1000
-/// bytes.
-pub fn has_fault(alloc: Global, text: &[u8], at: u64) -> bool {
-    is_fault(kinds_of_whole(alloc, false, text), at)
-        && has_fault_in(alloc, text, 1000, at)
-        && has_fault_in(alloc, text, 1, at)
-        && has_fault_in(alloc, text, 2, at)
-        && has_fault_in(alloc, text, 3, at)
+/// Whether a text has the tokens that are said, and then these, or has the fault, whole and in pieces
+/// of 1, 2, 3 and 1000 bytes.
+pub fn has_tokens(alloc: Global, updates: bool, text: &[u8], said: &str, more: &str) -> bool {
+    for way in &WAYS {
+        if !is_found(alloc, *way, updates, text, said, more) {
+            return false;
+        }
+    }
+    true
+}
+
+/// Whether a text with a dot after it has the tokens that are said, and then a dot.
+pub fn has_dotted(alloc: Global, updates: bool, text: &str, said: &str) -> bool {
+    let Ok(dotted) = format!(in alloc; "{text}.") else {
+        return false;
+    };
+    has_tokens(alloc, updates, dotted.as_str().as_bytes(), said, "Dot ")
+}
+
+/// Whether so many of a text's tokens are given before it has ended.
+pub fn has_settled(alloc: Global, updates: bool, text: &[u8], said: &str) -> bool {
+    is_found(alloc, Way::Settled, updates, text, said, "")
 }

@@ -1,103 +1,64 @@
 //! Texts and their tokens, in pieces of any size.
-use crate::readings::has_tokens;
-use gs_model::Refusal;
+use crate::rows::{Of, wrong_row};
 use std::alloc::Global;
-use std::test::Fail;
 
-/// A text, and the kinds of its tokens.
-type Row = (&'static str, &'static str);
+/// A dot belongs to the longest token: tokens with dots in them, and dots beside tokens.
+const DOTS: &str = "\
+    PnameLn Comma →ex:a.b,¦\
+    PnameLn Dot →ex:a. ¦\
+    Integer Dot →1.¦\
+    Double →1.e0¦\
+    Decimal Decimal Integer →-.5 +1.5 2¦\
+    True Dot →true.¦\
+    PnameLn →true.a:b¦\
+    True Decimal →true.5¦\
+    BlankNodeLabel Dot Dot →_:a..¦\
+    A Dot A Dot A →a.a.a ¦\
+";
 
-/// Tokens with dots in them, and dots beside tokens.
-const DOTS: [Row; 10] = [
-    ("ex:a.b,", "PnameLn Comma"),
-    ("ex:a. ", "PnameLn Dot"),
-    ("1.", "Integer Dot"),
-    ("1.e0", "Double"),
-    ("-.5 +1.5 2", "Decimal Decimal Integer"),
-    ("true.", "True Dot"),
-    ("true.a:b", "PnameLn"),
-    ("true.5", "True Decimal"),
-    ("_:a..", "BlankNodeLabel Dot Dot"),
-    ("a.a.a ", "A Dot A Dot A"),
-];
+/// Words after a word that is no prefix are words: words and dots that may become a prefix, and do not.
+const WORDS: &str = "\
+    A Dot A Dot Dot A Dot PnameNs →a.a..a.:¦\
+    A Dot A Dot A Semicolon PnameLn →a.a.a;a.a.a:a.a ¦\
+    True Dot A Semicolon PnameLn →true.a;a.b:c ¦\
+";
 
-/// Words and dots that may become a prefix, and do not.
-const WORDS: [Row; 3] = [
-    ("a.a..a.:", "A Dot A Dot Dot A Dot PnameNs"),
-    ("a.a.a;a.a.a:a.a ", "A Dot A Dot A Semicolon PnameLn"),
-    ("true.a;a.b:c ", "True Dot A Semicolon PnameLn"),
-];
+/// Strings end as the grammar says: strings of each kind.
+const STRINGS: &str = "\
+    StringLiteralQuote →\"\"¦\
+    StringLiteralSingleQuote →'a\\'\\u00e9'¦\
+    StringLiteralLongQuote →\"\"\"a\"b\"\"c\n\"\"\"¦\
+    StringLiteralLongSingleQuote Dot →''''''.¦\
+    StringLiteralSingleQuote LangTag Carets →'x'@en-GB^^¦\
+    StringLiteralLongQuote →\"\"\"\n\"\"\"¦\
+    StringLiteralLongSingleQuote →'''\n'''¦\
+    StringLiteralLongSingleQuote →''''''¦\
+";
 
-/// Strings of each kind.
-const STRINGS: [Row; 8] = [
-    ("\"\"", "StringLiteralQuote"),
-    ("'a\\'\\u00e9'", "StringLiteralSingleQuote"),
-    ("\"\"\"a\"b\"\"c\n\"\"\"", "StringLiteralLongQuote"),
-    ("''''''.", "StringLiteralLongSingleQuote Dot"),
-    ("'x'@en-GB^^", "StringLiteralSingleQuote LangTag Carets"),
-    ("\"\"\"\n\"\"\"", "StringLiteralLongQuote"),
-    ("'''\n'''", "StringLiteralLongSingleQuote"),
-    ("''''''", "StringLiteralLongSingleQuote"),
-];
+/// White space and comments part tokens; and tokens with none between them.
+const SPACES: &str = "\
+    IriRef Semicolon → <a#b>#c . d\r\n; # end¦\
+    PnameLn OpenBracket CloseBracket OpenParenthesis CloseParenthesis →é:ü[]()¦\
+    LangTag PnameNs Base Prefix →@prefix : BASE pReFiX¦\
+";
 
-/// White space and comments, and tokens with none between them.
-const SPACES: [Row; 3] = [
-    (" <a#b>#c . d\r\n; # end", "IriRef Semicolon"),
-    (
-        "é:ü[]()",
-        "PnameLn OpenBracket CloseBracket OpenParenthesis CloseParenthesis",
-    ),
-    ("@prefix : BASE pReFiX", "LangTag PnameNs Base Prefix"),
-];
+/// Updates have words, braces and variables: tokens that stand in updates alone.
+const UPDATES: &str = "\
+    Insert Data OpenBrace Var Var PnameLn CloseBrace →insert DATA{?x $y1 a:b}¦\
+    Delete Where Graph Load Clear Drop Create Add Move Copy With →delete where graph load clear drop create add move copy with¦\
+";
 
-/// Tokens that stand in updates alone.
-const UPDATES: [Row; 2] = [
-    (
-        "insert DATA{?x $y1 a:b}",
-        "Insert Data OpenBrace Var Var PnameLn CloseBrace",
-    ),
-    (
-        "delete where graph load clear drop create add move copy with",
-        "Delete Where Graph Load Clear Drop Create Add Move Copy With",
-    ),
-];
-
-/// The first text that has not its tokens.
-fn wrong_row(alloc: Global, updates: bool, rows: &[Row]) -> Result<Option<&'static str>, Refusal> {
-    for (text, kinds) in rows {
-        if !has_tokens(alloc, updates, text, kinds)? {
-            return Ok(Some(text));
-        }
-    }
-    Ok(None)
+/// The first row that is wrong.
+fn wrong_text(alloc: Global) -> Option<&'static str> {
+    let turtle = Of::Tokens { updates: false };
+    wrong_row(alloc, turtle, DOTS, '¦', 10)
+        .or(wrong_row(alloc, turtle, WORDS, '¦', 3))
+        .or(wrong_row(alloc, turtle, STRINGS, '¦', 8))
+        .or(wrong_row(alloc, turtle, SPACES, '¦', 3))
+        .or(wrong_row(alloc, Of::Tokens { updates: true }, UPDATES, '¦', 2))
 }
 
 #[test]
-fn a_dot_belongs_to_the_longest_token(rt: HostRuntime) -> Result<(), Fail> {
-    assert_eq!(rt; wrong_row(rt.alloc(), false, &DOTS)?, None);
-    Ok(())
-}
-
-#[test]
-fn words_after_a_word_that_is_no_prefix_are_words(rt: HostRuntime) -> Result<(), Fail> {
-    assert_eq!(rt; wrong_row(rt.alloc(), false, &WORDS)?, None);
-    Ok(())
-}
-
-#[test]
-fn strings_end_as_the_grammar_says(rt: HostRuntime) -> Result<(), Fail> {
-    assert_eq!(rt; wrong_row(rt.alloc(), false, &STRINGS)?, None);
-    Ok(())
-}
-
-#[test]
-fn white_space_and_comments_part_tokens(rt: HostRuntime) -> Result<(), Fail> {
-    assert_eq!(rt; wrong_row(rt.alloc(), false, &SPACES)?, None);
-    Ok(())
-}
-
-#[test]
-fn updates_have_words_braces_and_variables(rt: HostRuntime) -> Result<(), Fail> {
-    assert_eq!(rt; wrong_row(rt.alloc(), true, &UPDATES)?, None);
-    Ok(())
+fn texts_have_their_tokens(rt: HostRuntime) {
+    assert_eq!(rt; wrong_text(rt.alloc()), None);
 }
