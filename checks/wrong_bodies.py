@@ -1,14 +1,17 @@
 """Fills the tables of docs/WRONG_BODIES.md from the edits that must fail: wrong_bodies.py [--check].
 
-The first table has the edits that the gate tries, in the crates' folders, the second those of `checks/edits`. An edit begins with the promise that it breaks, in lines that begin with `# `; the table has that promise and the edit's crate, in the
-order of crates.txt and then of names. What refuses the edit, the last column, is written in the page alone: the script keeps it, and
-leaves it empty for a new edit. With `--check` it changes nothing, says where the page differs, which row has no last column, and
-which name of one is in no code and no definition, and ends with status 1 if there is any."""
+The first table has the edits that the gate tries, in the crates' folders, the second those of `checks/edits`. An edit begins with the
+promise that it breaks, in lines that begin with `# `; each table has that promise and the edit's crate, in the order of crates.txt and
+then of names. What refuses the edit, the last column, is written in the page alone: the script keeps it, and leaves it empty for a new
+edit. With `--check` it changes nothing, says where the page differs, which row has no last column, and which name of one is in no code
+and no definition; of the edits that the gate does not try it says which could not be made. It ends with status 1 if there is any."""
 import functools
 import glob
 import os
 import re
 import sys
+
+import twins
 
 TOP = os.path.join(os.path.dirname(os.path.abspath(__file__)), "..")
 PAGE = "docs/WRONG_BODIES.md"
@@ -53,6 +56,20 @@ def names():
     return {word for path in paths for word in re.findall(r"[A-Za-z_]\w*", text(path))}
 
 
+def stale():
+    """What is wrong with the edits that the gate does not try, which nothing else looks at each day."""
+    for path in sorted(glob.glob(os.path.join(TOP, "checks", "edits", "*", "*"))):
+        crate, name = path.split(os.sep)[-2:]
+        if not os.path.isdir(os.path.join(TOP, "crates", crate)) or not name.endswith(".edit"):
+            yield f"checks/edits/{crate}/{name} is no edit of a crate"
+            continue
+        if os.path.exists(os.path.join(TOP, "crates", crate, "must-fail", name)):
+            yield f"{name} of {crate} stands at both places"
+        for file, old, _ in twins.pairs_of(text(path)):
+            if text(f"crates/{crate}/{file}").count(old) != 1:
+                yield f"the old text of checks/edits/{crate}/{name} does not stand once in {file}"
+
+
 def differences():
     """What is wrong with the page."""
     page, found = text(PAGE), []
@@ -67,7 +84,7 @@ def differences():
             found.append(f"{PAGE} does not say what refuses {edit} of {crate}")
         for name in re.findall(r"`([^`]+)`", said):
             found += [f"{PAGE} says that {name} refuses {edit} of {crate}: there is no {it}" for it in re.findall(r"[A-Za-z_]\w*", name) if it not in names()]
-    return found
+    return found + list(stale())
 
 
 def main():

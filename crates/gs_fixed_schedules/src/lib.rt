@@ -4,6 +4,7 @@
 
 mod conditions;
 mod datasets;
+mod deeds;
 mod large;
 mod last;
 mod lines;

@@ -101,6 +101,24 @@ impl Line {
         }
     }
 
+    /// The event did what it is to do on both stores.
+    fn check_both(&self, moment: Moment, effects: &Effects) -> Result<(), Stop> {
+        self.check(moment, &effects.judged)?;
+        self.check_plain(moment, effects)
+    }
+
+    /// The event did what it is to do, and by a judge too.
+    fn check_judged(
+        &self,
+        moment: Moment,
+        judge: &mut Judge,
+        effects: &Effects,
+        totals: &mut Totals,
+    ) -> Result<(), Stop> {
+        self.check(moment, &effects.judged)?;
+        self.judge(judge, effects, totals)
+    }
+
     /// A store takes the event. Where it is refused for memory, that has changed nothing that is counted, and
     /// the store takes it once more.
     fn taken<S: Subject>(&self, moment: Moment, store: &mut S) -> Result<Effect, Stop> {
@@ -133,6 +151,8 @@ impl Line {
 pub struct Lines {
     alloc: Global,
     list: Vec<Line>,
+    /// Nothing is freed, so there may be any number of nodes and records more.
+    is_kept: bool,
 }
 
 impl Lines {
@@ -141,6 +161,16 @@ impl Lines {
         Lines {
             alloc,
             list: Vec::new(alloc),
+            is_kept: false,
+        }
+    }
+
+    /// The same, but nothing is ever freed.
+    pub fn kept(alloc: Global) -> Lines {
+        Lines {
+            alloc,
+            list: Vec::new(alloc),
+            is_kept: true,
         }
     }
 
@@ -162,7 +192,7 @@ impl Lines {
         })
     }
 
-    /// The same of an event by which a seat is asked this.
+    /// The same of an event by which a seat is asked this. The words have ` / ` between their lines.
     pub fn push_asked(
         &mut self,
         name: &'static str,
@@ -171,7 +201,7 @@ impl Lines {
         words: &str,
         bounds: Bounds,
     ) -> Result<(), AllocError> {
-        let wanted = String::from_str(self.alloc, words)?;
+        let wanted = words.replace(self.alloc, " / ", "\n")?;
         self.push_line(Line {
             event,
             ask: Some(ask),
@@ -183,6 +213,9 @@ impl Lines {
 
     /// At most so many nodes and records are freed. The words are the whole answer, or `more` or `done` alone.
     pub fn push_free(&mut self, most: u64, words: &str, bounds: Bounds) -> Result<(), AllocError> {
+        if self.is_kept {
+            return Ok(());
+        }
         let wanted = match words {
             "more" => Wanted::Left(true),
             "done" => Wanted::Left(false),
@@ -195,6 +228,12 @@ impl Lines {
             wanted,
             bounds,
         })
+    }
+
+    /// A row that can't be read: no answer and no count is right.
+    pub fn push_unread(&mut self, row: &str) -> Result<(), AllocError> {
+        let bounds = Bounds::exactly(u64::MAX, u64::MAX);
+        self.push("unread row", Event::Reclaim(0), row, bounds)
     }
 
     /// All that no pin keeps is freed.
@@ -236,8 +275,7 @@ impl Lines {
         for (number, line) in self.list.iter().enumerate() {
             let moment = line.moment(self.alloc, number);
             let effects = on_both(store, plain, &line.event);
-            line.check(moment, &effects.judged)?;
-            line.check_plain(moment, &effects)?;
+            line.check_both(moment, &effects)?;
         }
         Ok(())
     }
@@ -253,13 +291,16 @@ impl Lines {
         for (number, line) in self.list.iter().enumerate() {
             judge.step = number;
             let effects = on_both(store, plain, &line.event);
-            line.check(line.moment(self.alloc, number), &effects.judged)?;
-            line.judge(judge, &effects, &mut totals)?;
+            let moment = line.moment(self.alloc, number);
+            line.check_judged(moment, judge, &effects, &mut totals)?;
         }
         Ok(())
     }
 
-    fn push_line(&mut self, line: Line) -> Result<(), AllocError> {
+    fn push_line(&mut self, mut line: Line) -> Result<(), AllocError> {
+        if self.is_kept {
+            line.bounds.most = u64::MAX;
+        }
         self.list.push(line).map_err(AllocError::from)
     }
 }

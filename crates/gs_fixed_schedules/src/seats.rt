@@ -54,41 +54,50 @@ fn push_default(alloc: Global, lines: &mut Lines) -> Result<(), Refusal> {
     Ok(())
 }
 
-/// A seat puts a triple of its own over the named graph.
-fn push_version(alloc: Global, lines: &mut Lines, seat: u16) -> Result<(), Refusal> {
+/// A seat opens an upload for a triple of its own over the named graph.
+fn push_open(alloc: Global, lines: &mut Lines, seat: u16) -> Result<(), Refusal> {
     let before = u64::from(seat);
-    let request = before.saturating_add(2);
     let open = Action::Open(UploadKind::Put(target(alloc, Place::A)?), None);
-    let words = format!(in alloc; "opened {request}")?;
-    let opened = versions_and(before, 1);
-    lines.push("Open", Event::Seat(seat, open), words.as_str(), opened)?;
-    let staged = versions_and(before, 2);
-    lines.push(
-        "Stage",
-        stage(alloc, seat, number_of(seat))?,
-        "staged",
-        staged,
-    )?;
+    let event = Event::Seat(seat, open);
+    let words = format!(in alloc; "opened {}", before.saturating_add(2))?;
+    lines.push("Open", event, words.as_str(), versions_and(before, 1))?;
+    Ok(())
+}
+
+fn push_commit(alloc: Global, lines: &mut Lines, seat: u16) -> Result<(), Refusal> {
     let status = if seat == 0 { 201 } else { 204 };
-    let number = commit_of(seat);
-    let words = format!(in alloc; "status {status}, commit {number}")?;
+    let words = format!(in alloc; "status {status}, commit {}", commit_of(seat))?;
     let commit = Event::Seat(seat, Action::Commit);
-    let bounds = versions(before.saturating_add(1));
+    let bounds = versions(u64::from(seat).saturating_add(1));
     lines.push("Commit", commit, words.as_str(), bounds)?;
     Ok(())
 }
 
-/// A seat begins a read of all graphs, and is given the line of the default graph.
+/// A seat puts that triple.
+fn push_version(alloc: Global, lines: &mut Lines, seat: u16) -> Result<(), Refusal> {
+    push_open(alloc, lines, seat)?;
+    let event = stage(alloc, seat, number_of(seat))?;
+    let staged = versions_and(u64::from(seat), 2);
+    lines.push("Stage", event, "staged", staged)?;
+    push_commit(alloc, lines, seat)
+}
+
+/// A seat begins a read of all graphs.
 fn push_pin(alloc: Global, lines: &mut Lines, seat: u16) -> Result<(), Refusal> {
-    let bounds = versions(u64::from(seat).saturating_add(1));
+    let words = format!(in alloc; "pinned 200, commit {}", commit_of(seat))?;
     let pin = Event::Seat(seat, Action::Pin(Scope::All));
-    let number = commit_of(seat);
-    let words = format!(in alloc; "pinned 200, commit {number}")?;
+    let bounds = versions(u64::from(seat).saturating_add(1));
     lines.push("Pin", pin, words.as_str(), bounds)?;
+    Ok(())
+}
+
+/// It is given the line of the default graph.
+fn push_first(alloc: Global, lines: &mut Lines, seat: u16) -> Result<(), Refusal> {
     let mut words = String::from_str(alloc, "lines ")?;
     push_line(&mut words, alloc, FIRST)?;
     words.push_str("more")?;
     let piece = Event::Seat(seat, Action::Piece(1));
+    let bounds = versions(u64::from(seat).saturating_add(1));
     lines.push("Piece", piece, words.as_str(), bounds)?;
     Ok(())
 }
@@ -131,6 +140,7 @@ fn push_all(alloc: Global, lines: &mut Lines) -> Result<(), Refusal> {
     for seat in 0..SEATS {
         push_version(alloc, lines, seat)?;
         push_pin(alloc, lines, seat)?;
+        push_first(alloc, lines, seat)?;
     }
     lines.push_reclaim(true, versions(u64::from(SEATS)))?;
     push_ends(alloc, lines)

@@ -13,6 +13,8 @@ mod large;
 mod looked;
 mod notation;
 #[cfg(test)]
+mod outcome;
+#[cfg(test)]
 mod rows;
 mod trees;
 

@@ -3,20 +3,27 @@ use gs_model::Refusal;
 use gs_term::{Part, Pattern, TermText, Triple, VariableName};
 use std::alloc::Global;
 
-/// `?x` is a variable, `_1` a blank node, `"x` a literal, and any other word an IRI.
-fn part(alloc: Global, word: &str) -> Result<Part, Refusal> {
-    if let Some(name) = word.strip_prefix('?') {
-        return Ok(Part::Variable(VariableName::new(alloc, name)?));
+/// `_1` is a blank node, `"x` a literal, and any other word an IRI; a variable is no term.
+fn term(alloc: Global, word: &str) -> Result<TermText, Refusal> {
+    if word.starts_with('?') {
+        return Err(Refusal::Syntax(0));
     }
     if let Some(number) = word.strip_prefix('_') {
-        let number = number.parse::<u64>().unwrap_or_default();
-        return Ok(Part::Term(TermText::blank(alloc, 1, number)?));
+        return TermText::blank(alloc, 1, number.parse::<u64>().unwrap_or_default());
     }
     if let Some(lexical) = word.strip_prefix('"') {
-        return Ok(Part::Term(TermText::literal(alloc, lexical, None, None)?));
+        return TermText::literal(alloc, lexical, None, None);
     }
     let iri = format!(in alloc; "e:{word}")?;
-    Ok(Part::Term(TermText::iri(alloc, iri.as_str())?))
+    TermText::iri(alloc, iri.as_str())
+}
+
+/// `?x` is a variable, and any other word a term.
+fn part(alloc: Global, word: &str) -> Result<Part, Refusal> {
+    match word.strip_prefix('?') {
+        Some(name) => Ok(Part::Variable(VariableName::new(alloc, name)?)),
+        None => Ok(Part::Term(term(alloc, word)?)),
+    }
 }
 
 /// Three words.
@@ -29,42 +36,57 @@ fn pattern(alloc: Global, text: &str) -> Result<Pattern, Refusal> {
     })
 }
 
-/// Patterns, with a comma between two.
-pub fn patterns(alloc: Global, text: &str) -> Result<Vec<Pattern>, Refusal> {
-    let mut list = Vec::new(alloc);
+/// Adds patterns.
+fn push_patterns(alloc: Global, text: &str, list: &mut Vec<Pattern>) -> Result<(), Refusal> {
     for piece in text.split(',') {
         let piece = piece.trim();
         if !piece.is_empty() {
             list.push(pattern(alloc, piece)?)?;
         }
     }
+    Ok(())
+}
+
+/// Patterns, with a comma between two.
+pub fn patterns(alloc: Global, text: &str) -> Result<Vec<Pattern>, Refusal> {
+    let mut list = Vec::new(alloc);
+    push_patterns(alloc, text, &mut list)?;
     Ok(list)
 }
 
-/// The triple of a pattern that has no variable and RDF's kinds.
-fn triple(pattern: Pattern) -> Result<Triple, Refusal> {
-    let Pattern {
-        subject,
-        predicate,
-        object,
-    } = pattern;
-    let (Part::Term(subject), Part::Term(predicate), Part::Term(object)) = (
-        subject, predicate, object,
-    ) else {
-        return Err(Refusal::Syntax(0));
-    };
-    if !subject.is_subject() || !predicate.is_iri() {
-        return Err(Refusal::Syntax(0));
+/// A triple of terms, of RDF's kinds.
+fn triple_of(subject: TermText, predicate: TermText, object: TermText) -> Result<Triple, Refusal> {
+    if subject.is_subject() && predicate.is_iri() {
+        Ok(Triple::new(subject, predicate, object))
+    } else {
+        Err(Refusal::Syntax(0))
     }
-    Ok(Triple::new(subject, predicate, object))
+}
+
+/// Three words that are terms.
+fn triple(alloc: Global, text: &str) -> Result<Triple, Refusal> {
+    let mut words = text.split(' ');
+    let subject = term(alloc, words.next().unwrap_or_default())?;
+    let predicate = term(alloc, words.next().unwrap_or_default())?;
+    let object = term(alloc, words.next().unwrap_or_default())?;
+    triple_of(subject, predicate, object)
+}
+
+/// Adds triples.
+fn push_triples(alloc: Global, text: &str, list: &mut Vec<Triple>) -> Result<(), Refusal> {
+    for piece in text.split(',') {
+        let piece = piece.trim();
+        if !piece.is_empty() {
+            list.push(triple(alloc, piece)?)?;
+        }
+    }
+    Ok(())
 }
 
 /// Triples, with a comma between two, in their order.
 pub fn triples(alloc: Global, text: &str) -> Result<Vec<Triple>, Refusal> {
     let mut list = Vec::new(alloc);
-    for pattern in patterns(alloc, text)? {
-        list.push(triple(pattern)?)?;
-    }
+    push_triples(alloc, text, &mut list)?;
     list.sort_unstable();
     Ok(list)
 }

@@ -10,6 +10,8 @@ mod holds;
 #[cfg(test)]
 mod nodes;
 #[cfg(test)]
+mod outcome;
+#[cfg(test)]
 mod pins;
 #[cfg(test)]
 mod refusals;

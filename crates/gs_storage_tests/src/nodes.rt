@@ -1,15 +1,17 @@
 //! Pools beside a plain list of what each number has.
 use crate::draws::Draws;
+use crate::outcome::none_wrong;
 use gs_model::Refusal;
 use gs_pool::{Key, Node, Pool, Retired};
+use std::test::Fail;
 
 /// What a number has, in the list.
-#[derive(Clone, Copy, PartialEq, Eq)]
+#[derive(Clone, Copy)]
 enum Slot {
     Free,
     Plain(u32),
-    Aside(u32, u64, bool),
-    Retired(u32, u64, bool),
+    /// It is set aside, or else retired.
+    Off(u32, u64, bool, bool),
 }
 
 fn node(object: u32) -> Node {
@@ -30,7 +32,7 @@ fn node(object: u32) -> Node {
 fn used_in(list: &[Slot]) -> u64 {
     let mut used = 0u64;
     for slot in list {
-        if *slot != Slot::Free {
+        if !matches!(slot, Slot::Free) {
             used = used.saturating_add(1);
         }
     }
@@ -58,6 +60,28 @@ fn plain_in(list: &[Slot], id: u32) -> Option<u32> {
     }
 }
 
+/// Whether the list has a number set aside, or else retired, with this object and as this entry says.
+fn is_off(list: &[Slot], entry: Retired, object: u32, is_aside: bool) -> bool {
+    match list.get(entry.id as usize) {
+        Some(Slot::Off(has, death, whole, aside)) => {
+            *has == object && *death == entry.death && *whole == entry.whole && *aside == is_aside
+        }
+        _ => false,
+    }
+}
+
+/// Whether the list has no number set aside, or else none retired.
+fn none_off(list: &[Slot], is_aside: bool) -> bool {
+    for slot in list {
+        if let Slot::Off(_, _, _, aside) = slot
+            && *aside == is_aside
+        {
+            return false;
+        }
+    }
+    true
+}
+
 /// One step of the pool and of the list, at a number that is plain. Whether it is right.
 fn change(
     pool: &mut Pool,
@@ -68,58 +92,62 @@ fn change(
 ) -> Result<bool, Refusal> {
     let whole = object % 2 == 0;
     let death = u64::from(object % 100);
-    let entry = Retired { id, death, whole };
     if !pool.is_plain(id) {
         return Ok(true);
     }
-    match kind {
+    let had = pool.get(id).key.object;
+    let entry = Retired { id, death, whole };
+    let slot = match kind {
         0 => {
             pool.free(id);
-            put(list, id, Slot::Free)
+            Slot::Free
         }
         1 => {
             pool.set_aside(entry);
-            put(list, id, Slot::Aside(pool.get(id).key.object, death, whole))
+            Slot::Off(had, death, whole, true)
         }
         2 => {
             pool.retire(entry);
-            put(
-                list,
-                id,
-                Slot::Retired(pool.get(id).key.object, death, whole),
-            )
+            Slot::Off(had, death, whole, false)
         }
         _ => {
             pool.set(id, node(object));
-            put(list, id, Slot::Plain(object))
+            Slot::Plain(object)
         }
-    }
+    };
+    put(list, id, slot)
 }
 
-/// A node that is set aside comes off its list, and is plain again. Whether the list has it so, or none.
-fn take_aside(pool: &mut Pool, list: &mut Vec<Slot>) -> Result<bool, Refusal> {
-    let Some(entry) = pool.next_aside() else {
-        return Ok(!list.iter().any(|slot| matches!(slot, Slot::Aside(_, _, _))));
-    };
-    let object = pool.get(entry.id).key.object;
-    let was = list.get(entry.id as usize).copied();
-    let is_there = was == Some(Slot::Aside(object, entry.death, entry.whole));
+/// A node that came off one of the pool's lists is plain again. Whether the list had it so.
+fn take(
+    list: &mut Vec<Slot>,
+    entry: Retired,
+    object: u32,
+    is_aside: bool,
+) -> Result<bool, Refusal> {
+    let is_there = is_off(list, entry, object, is_aside);
     Ok(put(list, entry.id, Slot::Plain(object))? && is_there)
+}
+
+/// A node that is set aside comes off its list. Whether the list has it so, or none.
+fn take_aside(pool: &mut Pool, list: &mut Vec<Slot>) -> Result<bool, Refusal> {
+    match pool.next_aside() {
+        Some(entry) => take(list, entry, pool.get(entry.id).key.object, true),
+        None => Ok(none_off(list, true)),
+    }
 }
 
 /// The same, of a node that is retired.
 fn take_retired(pool: &mut Pool, list: &mut Vec<Slot>) -> Result<bool, Refusal> {
-    let Some(entry) = pool.next_retired() else {
-        return Ok(
-            !list
-                .iter()
-                .any(|slot| matches!(slot, Slot::Retired(_, _, _))),
-        );
-    };
-    let object = pool.get(entry.id).key.object;
-    let was = list.get(entry.id as usize).copied();
-    let is_there = was == Some(Slot::Retired(object, entry.death, entry.whole));
-    Ok(put(list, entry.id, Slot::Plain(object))? && is_there)
+    match pool.next_retired() {
+        Some(entry) => take(list, entry, pool.get(entry.id).key.object, false),
+        None => Ok(none_off(list, false)),
+    }
+}
+
+/// Both.
+fn take_both(pool: &mut Pool, list: &mut Vec<Slot>) -> Result<bool, Refusal> {
+    Ok(take_aside(pool, list)? && take_retired(pool, list)?)
 }
 
 /// A node goes into the pool and the list. Whether it is right: it is refused only where all numbers
@@ -157,12 +185,12 @@ fn is_right(
 ) -> Result<bool, Refusal> {
     let object = (draws.next() % 1_000_000) as u32;
     let id = (draws.next() % 64) as u32;
-    let is_done = match draws.next() % 8 {
-        0..=2 => add(pool, list, object, refused)?,
-        3..=6 => change(pool, list, id, object, draws.next() % 4)?,
-        _ => take_aside(pool, list)? && take_retired(pool, list)?,
+    let done = match draws.next() % 8 {
+        0..=2 => add(pool, list, object, refused),
+        3..=6 => change(pool, list, id, object, draws.next() % 4),
+        _ => take_both(pool, list),
     };
-    Ok(is_done && is_alike(pool, list, id))
+    Ok(done? && is_alike(pool, list, id))
 }
 
 /// The first step that is not right, or the number of all steps where too few nodes were refused or the
@@ -183,14 +211,13 @@ fn wrong_step(pool: &mut Pool, list: &mut Vec<Slot>) -> Result<Option<u32>, Refu
 }
 
 #[test]
-fn nodes_are_those_of_a_list(rt: HostRuntime) -> Result<(), Refusal> {
+fn nodes_are_those_of_a_list(rt: HostRuntime) -> Result<(), Fail> {
     let mut pool = Pool::new(rt.alloc(), 63);
     let mut list: Vec<Slot> = Vec::new(rt.alloc());
     let wrong = wrong_step(&mut pool, &mut list);
     drop(list);
     drop(pool);
-    assert_eq!(&rt; wrong?, None);
-    Ok(())
+    none_wrong(wrong)
 }
 
 /// Whether a pool of three numbers gives a number again that was freed.
@@ -210,7 +237,7 @@ fn gives_again(pool: &mut Pool) -> Result<bool, Refusal> {
 }
 
 #[test]
-fn a_freed_number_is_given_again(rt: HostRuntime) -> Result<(), Refusal> {
+fn a_freed_number_is_given_again(rt: HostRuntime) -> Result<(), Fail> {
     let mut pool = Pool::new(rt.alloc(), 2);
     let is_given = gives_again(&mut pool);
     drop(pool);

@@ -1,7 +1,9 @@
 //! Versions beside a plain list of pins.
 use crate::draws::Draws;
+use crate::outcome::none_wrong;
 use gs_model::Refusal;
 use gs_versions::Versions;
+use std::test::Fail;
 
 /// The first seat whose version in the list has the lifetime.
 fn needing(pins: &[Option<u64>], birth: u64, death: u64) -> Option<usize> {
@@ -107,10 +109,9 @@ fn wrong_step(versions: &mut Versions) -> Option<u32> {
 }
 
 #[test]
-fn pins_need_what_a_list_of_versions_needs(rt: HostRuntime) -> Result<(), Refusal> {
+fn pins_need_what_a_list_of_versions_needs(rt: HostRuntime) -> Result<(), Fail> {
     let mut versions = Versions::new(rt.alloc(), 5, 0)?;
     let wrong = wrong_step(&mut versions);
     drop(versions);
-    assert_eq!(&rt; wrong, None);
-    Ok(())
+    none_wrong(Ok(wrong))
 }

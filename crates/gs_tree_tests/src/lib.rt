@@ -9,6 +9,8 @@ mod number_sets;
 #[cfg(test)]
 mod orders;
 #[cfg(test)]
+mod outcome;
+#[cfg(test)]
 mod refusals;
 #[cfg(test)]
 mod runs;

@@ -1,8 +1,10 @@
 //! Sets that are filled in one order, and emptied again.
 use crate::number_sets::NumberSet;
+use crate::outcome::none_wrong;
 use gs_model::Refusal;
 use gs_pool::Key;
 use std::alloc::Global;
+use std::test::Fail;
 
 /// An order in which all numbers below a count are taken.
 #[derive(Clone, Copy)]
@@ -99,49 +101,62 @@ fn turns(
     )
 }
 
-/// The same of a new set.
-fn is_right(alloc: Global, fills: Way, empties: Way, count: u32) -> Result<bool, Refusal> {
+/// The order of a name.
+fn way_of(name: &str) -> Option<Way> {
+    match name {
+        "rising" => Some(Way::Rising),
+        "falling" => Some(Way::Falling),
+        "zigzag" => Some(Way::Zigzag),
+        _ => None,
+    }
+}
+
+/// Whether a row is so: the order in which a new set is filled, that in which it is emptied, and how many
+/// numbers it has.
+fn is_so(alloc: Global, row: &str) -> Result<bool, Refusal> {
+    let mut words = row.split(' ');
+    let Some(fills) = way_of(words.next().unwrap_or_default()) else {
+        return Ok(false);
+    };
+    let Some(empties) = way_of(words.next().unwrap_or_default()) else {
+        return Ok(false);
+    };
+    let Ok(count) = words.next().unwrap_or_default().parse::<u32>() else {
+        return Ok(false);
+    };
     let mut set = NumberSet::new(alloc);
     let answer = turns(alloc, &mut set, fills, empties, count);
     drop(set);
     answer
 }
 
-#[test]
-fn the_empty_set_has_no_number(rt: HostRuntime) -> Result<(), Refusal> {
-    assert!(&rt; is_right(rt.alloc(), Way::Rising, Way::Rising, 0)?);
-    Ok(())
-}
-
-/// Whether this is so of one number, and of two that rise and fall.
-fn are_right(alloc: Global) -> Result<bool, Refusal> {
-    Ok(
-        is_right(alloc, Way::Rising, Way::Rising, 1)?
-            && is_right(alloc, Way::Rising, Way::Rising, 2)?
-            && is_right(alloc, Way::Falling, Way::Rising, 2)?,
-    )
+/// The first row that is not so.
+fn wrong_row(alloc: Global, rows: &'static str) -> Result<Option<&'static str>, Refusal> {
+    for row in rows.split(',') {
+        if !is_so(alloc, row)? {
+            return Ok(Some(row));
+        }
+    }
+    Ok(None)
 }
 
 #[test]
-fn sets_of_one_and_of_two_numbers(rt: HostRuntime) -> Result<(), Refusal> {
-    assert!(&rt; are_right(rt.alloc())?);
-    Ok(())
+fn sets_of_no_number_and_of_one_and_two(rt: HostRuntime) -> Result<(), Fail> {
+    let rows = "rising rising 0,rising rising 1,rising rising 2,falling rising 2";
+    none_wrong(wrong_row(rt.alloc(), rows))
 }
 
 #[test]
-fn numbers_that_rise(rt: HostRuntime) -> Result<(), Refusal> {
-    assert!(&rt; is_right(rt.alloc(), Way::Rising, Way::Zigzag, 65_536)?);
-    Ok(())
+fn numbers_that_rise(rt: HostRuntime) -> Result<(), Fail> {
+    none_wrong(wrong_row(rt.alloc(), "rising zigzag 65536"))
 }
 
 #[test]
-fn numbers_that_fall(rt: HostRuntime) -> Result<(), Refusal> {
-    assert!(&rt; is_right(rt.alloc(), Way::Falling, Way::Rising, 65_536)?);
-    Ok(())
+fn numbers_that_fall(rt: HostRuntime) -> Result<(), Fail> {
+    none_wrong(wrong_row(rt.alloc(), "falling rising 65536"))
 }
 
 #[test]
-fn numbers_from_both_ends(rt: HostRuntime) -> Result<(), Refusal> {
-    assert!(&rt; is_right(rt.alloc(), Way::Zigzag, Way::Falling, 65_536)?);
-    Ok(())
+fn numbers_from_both_ends(rt: HostRuntime) -> Result<(), Fail> {
+    none_wrong(wrong_row(rt.alloc(), "zigzag falling 65536"))
 }

@@ -1,6 +1,7 @@
 //! Sets where a request for memory is refused. With memory these show the usual answers;
 //! `rt try --test --fail-alloc N` refuses the request of that number.
 use crate::number_sets::{NumberSet, key};
+use crate::outcome::none_wrong;
 use gs_model::Refusal;
 use gs_pool::Key;
 use std::alloc::Global;
@@ -90,15 +91,6 @@ fn first_not_removed(alloc: Global, set: &mut NumberSet) -> Result<Option<u32>, 
     })
 }
 
-#[test]
-fn a_refused_number_is_not_there(rt: HostRuntime) -> Result<(), Fail> {
-    let mut set = NumberSet::new(rt.alloc());
-    let first = first_not_added(rt.alloc(), &mut set);
-    drop(set);
-    assert_eq!(rt; first?, None);
-    Ok(())
-}
-
 /// The first number that does not go into the set, or out of it once all are there.
 fn first_wrong(alloc: Global, set: &mut NumberSet) -> Result<Option<u32>, Refusal> {
     match first_not_added(alloc, set)? {
@@ -108,12 +100,13 @@ fn first_wrong(alloc: Global, set: &mut NumberSet) -> Result<Option<u32>, Refusa
 }
 
 #[test]
-fn a_refused_removal_leaves_the_number(rt: HostRuntime) -> Result<(), Fail> {
+fn a_refused_number_is_not_there_and_a_refused_removal_leaves_it(
+    rt: HostRuntime,
+) -> Result<(), Fail> {
     let mut set = NumberSet::new(rt.alloc());
     let first = first_wrong(rt.alloc(), &mut set);
     drop(set);
-    assert_eq!(rt; first?, None);
-    Ok(())
+    none_wrong(first)
 }
 
 /// Puts the numbers below 40 into a set, and all into a run.

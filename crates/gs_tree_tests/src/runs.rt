@@ -1,8 +1,10 @@
 //! A run of many keys into sets of 0, 1, 2 and of many numbers, beside a list.
 use crate::number_sets::{NumberSet, key};
+use crate::outcome::none_wrong;
 use gs_model::Refusal;
 use gs_pool::Key;
 use std::alloc::Global;
+use std::test::Fail;
 
 /// All numbers are below this one.
 const NUMBERS: u32 = 2_000;
@@ -100,8 +102,39 @@ fn goes_in(
     )
 }
 
-/// The same of a new set and a new run.
-fn is_right(alloc: Global, start: Start, lacked: usize, total: usize) -> Result<bool, Refusal> {
+/// A row is the numbers of a new set, how many of the run it lacks, and how many it has then. Of the 667
+/// multiples of 3, the 317 multiples of 6 from 102 to 1,998 are in the run.
+const STARTS: &str = "
+none 950 950
+one 950 951
+two 949 951
+thirds 633 1300
+";
+
+/// The set of a name.
+fn start_of(name: &str) -> Option<Start> {
+    match name {
+        "none" => Some(Start::Empty),
+        "one" => Some(Start::One),
+        "two" => Some(Start::Two),
+        "thirds" => Some(Start::Thirds),
+        _ => None,
+    }
+}
+
+/// The number that a word is.
+fn number(word: &str) -> usize {
+    word.parse::<usize>().unwrap_or_default()
+}
+
+/// Whether a row is so, with a new run.
+fn is_so(alloc: Global, row: &str) -> Result<bool, Refusal> {
+    let mut words = row.split(' ');
+    let Some(start) = start_of(words.next().unwrap_or_default()) else {
+        return Ok(false);
+    };
+    let lacked = number(words.next().unwrap_or_default());
+    let total = number(words.next().unwrap_or_default());
     let mut set = NumberSet::new(alloc);
     let mut run: Vec<Key> = Vec::new(alloc);
     let answer = goes_in(alloc, &mut set, &mut run, start, lacked, total);
@@ -110,85 +143,84 @@ fn is_right(alloc: Global, start: Start, lacked: usize, total: usize) -> Result<
     answer
 }
 
-#[test]
-fn a_run_becomes_a_set(rt: HostRuntime) -> Result<(), Refusal> {
-    assert!(&rt; is_right(rt.alloc(), Start::Empty, 950, 950)?);
-    Ok(())
-}
-
-#[test]
-fn a_run_goes_into_a_set_of_one_number(rt: HostRuntime) -> Result<(), Refusal> {
-    assert!(&rt; is_right(rt.alloc(), Start::One, 950, 951)?);
-    Ok(())
-}
-
-#[test]
-fn a_run_goes_into_a_set_of_two_numbers(rt: HostRuntime) -> Result<(), Refusal> {
-    assert!(&rt; is_right(rt.alloc(), Start::Two, 949, 951)?);
-    Ok(())
-}
-
-// Of the 667 multiples of 3, the 317 multiples of 6 from 102 to 1,998 are in the run.
-#[test]
-fn a_run_goes_into_a_set_of_many_numbers(rt: HostRuntime) -> Result<(), Refusal> {
-    assert!(&rt; is_right(rt.alloc(), Start::Thirds, 633, 1_300)?);
-    Ok(())
-}
-
-/// Whether an empty run adds nothing to a set of one number.
-fn takes_an_empty_run(set: &mut NumberSet) -> Result<bool, Refusal> {
-    Ok(set.insert(7, 0)? && set.add_run(&[], 0)? == Some(0) && set.count() == 1)
-}
-
-#[test]
-fn an_empty_run_adds_nothing(rt: HostRuntime) -> Result<(), Refusal> {
-    let mut set = NumberSet::new(rt.alloc());
-    let is_right = takes_an_empty_run(&mut set);
-    drop(set);
-    assert!(&rt; is_right?);
-    Ok(())
-}
-
-/// Runs that come one after another, and how many numbers of each are added: none where it does not rise.
-const RUNS: [(&str, &[u32], Option<usize>); 4] = [
-    ("a number twice", &[3, 3], None),
-    ("a number that falls", &[4, 3], None),
-    ("a last number that falls", &[1, 2, 5, 4], None),
-    ("numbers that rise", &[1, 2, 4, 5], Some(4)),
-];
-
-/// Whether so many numbers of a run are added.
-fn adds(
-    alloc: Global,
-    set: &mut NumberSet,
-    numbers: &[u32],
-    added: Option<usize>,
-) -> Result<bool, Refusal> {
-    let mut run: Vec<Key> = Vec::with_capacity(alloc, numbers.len())?;
-    for number in numbers {
-        run.push(key(*number))?;
+/// The first row that is not so, or `rows` where they are not four.
+fn wrong_start(alloc: Global) -> Result<Option<&'static str>, Refusal> {
+    let mut right = 0usize;
+    for row in STARTS.trim().lines() {
+        if !is_so(alloc, row)? {
+            return Ok(Some(row));
+        }
+        right = right.saturating_add(1);
     }
-    let answer = set.add_run(&run, 0);
-    drop(run);
-    Ok(answer? == added)
+    Ok(if right == 4 { None } else { Some("rows") })
 }
 
-/// The first run that adds something else.
-fn wrong_run(alloc: Global, set: &mut NumberSet) -> Result<Option<&'static str>, Refusal> {
-    for (name, numbers, added) in &RUNS {
-        if !adds(alloc, set, numbers, *added)? {
-            return Ok(Some(name));
+#[test]
+fn a_run_goes_into_a_set_of_numbers(rt: HostRuntime) -> Result<(), Fail> {
+    none_wrong(wrong_start(rt.alloc()))
+}
+
+/// Runs that come one after another into a set that has 7: a name, the run, how many of its numbers are
+/// added, which is none where it does not rise, and how many the set has then.
+const RUNS: &str = "
+no number | | 0 | 1
+a number twice | 3 3 | none | 1
+a number that falls | 4 3 | none | 1
+a last number that falls | 1 2 5 4 | none | 1
+numbers that rise | 1 2 4 5 | 4 | 5
+";
+
+/// Adds the keys of numbers to a run.
+fn push_numbers(run: &mut Vec<Key>, numbers: &str) -> Result<(), Refusal> {
+    for word in numbers.split(' ') {
+        if let Ok(number) = word.parse::<u32>() {
+            run.push(key(number))?;
         }
     }
-    let is_right = set.count() == 4;
-    Ok(if is_right { None } else { Some("their count") })
+    Ok(())
+}
+
+/// Whether so many numbers of a run are added, or none where that is no number.
+fn adds(alloc: Global, set: &mut NumberSet, numbers: &str, added: &str) -> Result<bool, Refusal> {
+    let mut run: Vec<Key> = Vec::new(alloc);
+    let pushed = push_numbers(&mut run, numbers);
+    let answer = set.add_run(&run, 0);
+    drop(run);
+    pushed?;
+    Ok(answer? == added.parse::<usize>().ok())
+}
+
+/// Whether a row of runs is so.
+fn is_run_so(alloc: Global, set: &mut NumberSet, row: &str) -> Result<bool, Refusal> {
+    let mut columns = row.split('|');
+    let _name = columns.next();
+    let numbers = columns.next().unwrap_or_default();
+    let added = columns.next().unwrap_or_default();
+    let count = number(columns.next().unwrap_or_default().trim());
+    Ok(adds(alloc, set, numbers, added.trim())? && set.count() == count)
+}
+
+/// The first run that is not so, or `rows` where they are not five, or 7 was not new.
+fn wrong_run(alloc: Global, set: &mut NumberSet) -> Result<Option<&'static str>, Refusal> {
+    let is_new = set.insert(7, 0)?;
+    let mut right = 0usize;
+    for row in RUNS.trim().lines() {
+        if !is_run_so(alloc, set, row)? {
+            return Ok(Some(row));
+        }
+        right = right.saturating_add(1);
+    }
+    Ok(if is_new && right == 5 {
+        None
+    } else {
+        Some("rows")
+    })
 }
 
 #[test]
-fn a_run_that_does_not_rise_is_reported(rt: HostRuntime) -> Result<(), Refusal> {
+fn a_run_adds_what_is_new_where_it_rises(rt: HostRuntime) -> Result<(), Fail> {
     let mut set = NumberSet::new(rt.alloc());
     let wrong = wrong_run(rt.alloc(), &mut set);
     drop(set);
-    assert_eq!(&rt; wrong?, None);
-    Ok(())
+    none_wrong(wrong)
 }

@@ -1,8 +1,10 @@
 //! Sets beside a table that says of each number whether it is there.
 use crate::draws::Draws;
 use crate::number_sets::NumberSet;
+use crate::outcome::none_wrong;
 use gs_model::Refusal;
 use gs_pool::Key;
+use std::test::Fail;
 
 /// All numbers are below this one.
 const NUMBERS: u32 = 200;
@@ -108,12 +110,11 @@ fn wrong_step(set: &mut NumberSet, keys: &mut Vec<Key>) -> Result<Option<u64>, R
 }
 
 #[test]
-fn numbers_are_those_of_a_table(rt: HostRuntime) -> Result<(), Refusal> {
+fn numbers_are_those_of_a_table(rt: HostRuntime) -> Result<(), Fail> {
     let mut set = NumberSet::new(rt.alloc());
     let mut keys: Vec<Key> = Vec::new(rt.alloc());
     let wrong = wrong_step(&mut set, &mut keys);
     drop(keys);
     drop(set);
-    assert_eq!(&rt; wrong?, None);
-    Ok(())
+    none_wrong(wrong)
 }
