@@ -125,9 +125,10 @@ fn bit(number: Option<u64>) -> u64 {
 
 /// Whether a step does what is to be seen of it.
 fn is_right(pool: &mut Pool, step: &str) -> Result<bool, Refusal> {
-    let Some([first, second, third]) = numbers(step) else {
+    let Some(found) = numbers(step) else {
         return Ok(false);
     };
+    let [first, second, third] = found;
     let list = first.unwrap_or_default() as usize;
     let other = second.unwrap_or_default();
     let death = third.unwrap_or_default();
