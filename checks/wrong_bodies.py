@@ -4,7 +4,7 @@ The first table has the edits that the gate tries, in the crates' folders, the s
 promise that it breaks, in lines that begin with `# `; each table has that promise and the edit's crate, in the order of crates.txt and
 then of names. What refuses the edit, the last column, is written in the page alone: the script keeps it, and leaves it empty for a new
 edit. With `--check` it changes nothing, says where the page differs, which row has no last column, and which name of one is in no code
-and no definition; of the edits that the gate does not try it says which could not be made. It ends with status 1 if there is any."""
+and no definition; of the edits that the gate does not try it says whose old text is gone. It ends with status 1 if there is any."""
 import functools
 import glob
 import os
