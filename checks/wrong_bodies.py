@@ -84,6 +84,9 @@ def differences():
             found.append(f"{PAGE} does not say what refuses {edit} of {crate}")
         for name in re.findall(r"`([^`]+)`", said):
             found += [f"{PAGE} says that {name} refuses {edit} of {crate}: there is no {it}" for it in re.findall(r"[A-Za-z_]\w*", name) if it not in names()]
+    gate, beside = (len(list(rows(page, folder))) for folder in FOLDERS)
+    said = f"{gate} of the {gate + beside} [wrong bodies]"
+    found += [] if said in text("README.md") else [f"README.md does not say that the gate tries {said}"]
     return found + list(stale())
 
 
