@@ -21,7 +21,6 @@ SHARED_STORES, SHARED_DOORS = "gs_shared/src/shared_stores.rt", "gs_shared/src/d
 SERVING, WRITING = "gs_session/src/serving.rt", "gs_session/src/writing.rt"
 LINES, WORKERS = "gs_workers/src/lines.rt", "gs_workers/src/workers.rt"
 BIRTH = "let birth = books.versions.commit() + 1;\n    let merged"
-FIRST_BIRTH = "match upload.root { Some(root) => books.pool.get(root).birth, None => books.versions.commit() + 1 }"
 FREES_NODES, FREES_RECORDS = "reclaim(&mut self.books.pool, &self.books.versions, ", "self.books.records.reclaim(&self.books.versions, "
 NODES_FIRST = f"let nodes = {FREES_NODES}count);\n        let left = count - nodes.freed;\n        let records = {FREES_RECORDS}left);"
 RECORDS_FIRST = f"let records = {FREES_RECORDS}count);\n        let left = count - records.freed;\n        let nodes = {FREES_NODES}left);"
@@ -113,15 +112,6 @@ PLANTS = [
     ("no upload has memory", ACTIONS,
      BIRTH, "if books.request > 0 {\n        return Answer::Refused(Refusal::NoMemory);\n    }\n    " + BIRTH,
      [("gs_schedule_tests", "worked_schedules_print_what_they_must"), ("gs_run_tests", "a_run_over_each_store_answers_as_the_schedule_does")]),
-    ("each node is born at 0", ACTIONS,
-     BIRTH, "let birth = 0;\n    let merged",
-     [("gs_schedule_tests", "worked_schedules_print_what_they_must"), ("gs_store_schedules", "")]),
-    ("later stages give the birth of the first one", ACTIONS,
-     BIRTH, f"let birth = {FIRST_BIRTH};\n    let merged",
-     [("gs_schedule_tests", "worked_schedules_print_what_they_must")]),
-    ("what a patch copies is born a commit earlier", "gs_tree_store/src/patches.rt",
-     "let birth = books.versions.commit() + 1;", "let birth = books.versions.commit();",
-     [("gs_schedule_tests", "worked_patches_print_what_they_must")]),
     ("records are freed before nodes", "gs_tree_store/src/stores.rt",
      NODES_FIRST, RECORDS_FIRST,
      [("gs_store_schedules", "")]),

@@ -70,7 +70,8 @@ refused_steps old s (Writing k r g since) (Stage ts) is may = record {
   fits = subst (λ (o : Option SeatView). MatchOption o (Refused NoMemory ≡ Refused BadSeat) (λ p. FitsSeat old.view.totals p (Stage ts) (Refused NoMemory))) (sym is) tt;
   view = refused_view old.view s k r g since (Stage ts) tt is ∙ sym (next_there old.view s (Writing k r g since) (Stage ts) (Refused NoMemory) is);
   pinned = sym (set-get_or old.pinned s None);
-  waste = subst (λ (o : Option SeatView). WastesIf old.view.totals o (Stage ts) (Refused NoMemory) old.waste old.waste) (sym is) (record { between = old.waste; nodes = refl; records = refl });
+  waste = subst (λ (o : Option SeatView). WastesIf old.view.totals s o (Stage ts) (Refused NoMemory) old old) (sym is) (record { between = old.waste; nodes = refl; born = (λ u f. refl, λ f. refl); others = λ k other f. refl; records = refl });
+  few = λ h. h;
 }
 refused_steps old s q action is may = absurd may
 

@@ -29,6 +29,7 @@ impl<const ENTRIES: usize, const TRIPLES: usize> Audited<ENTRIES, TRIPLES> {
     ghost use Rattle.std.specs.Prelude.{◌≡◌, ◌<◌, ◌≤◌, [], true, replicate, IfOk, IfErr};
     ghost use Rattle.gs_model.specs.Bases.{is_base};
     ghost use Rattle.gs_model.specs.Limits.{max_seats};
+    ghost use Rattle.gs_event.specs.Births.{no_births};
     ghost use Rattle.gs_event.specs.Histories.{ShowsStart, HasStartPins};
     ghost use Rattle.gs_event.specs.Steps.{Steps};
     ghost use Rattle.gs_core.specs.Settings.{start_at};
@@ -52,6 +53,7 @@ impl<const ENTRIES: usize, const TRIPLES: usize> Audited<ENTRIES, TRIPLES> {
         ensures view { IfOk result (λ a. ShowsStart (start_at seats base.now 0 0) a.store) }
         ensures pinned { IfOk result (λ a. HasStartPins (start_at seats base.now 0 0) a.store) }
         ensures waste { IfOk result (λ a. a.store.waste ≡ []) }
+        ensures births { IfOk result (λ a. a.store.births ≡ no_births seats) }
         ensures page { IfOk result (λ a. page_of a.chronicle ≡ fresh_page) }
         ensures staged { IfOk result (λ a. staged_of a ≡ replicate seats 0) }
         ensures refused { IfErr result (λ refusal. refusal ≡ Refusal.NoMemory) }
@@ -77,6 +79,7 @@ impl<const ENTRIES: usize, const TRIPLES: usize> Audited<ENTRIES, TRIPLES> {
         ensures view { IfOk result (λ a. ShowsStart (start_at seats base.now 0 0) a.store) }
         ensures pinned { IfOk result (λ a. HasStartPins (start_at seats base.now 0 0) a.store) }
         ensures waste { IfOk result (λ a. a.store.waste ≡ []) }
+        ensures births { IfOk result (λ a. a.store.births ≡ no_births seats) }
         ensures page { IfOk result (λ a. page_of a.chronicle ≡ fresh_page) }
         ensures staged { IfOk result (λ a. staged_of a ≡ replicate seats 0) }
         ensures refused { IfErr result (λ refusal. refusal ≡ Refusal.NoMemory) }

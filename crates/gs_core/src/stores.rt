@@ -7,6 +7,7 @@ ghost use Rattle.gs_event.specs.Steps.{Steps};
 ghost use Rattle.gs_event.specs.Runs.{Runs};
 ghost use Rattle.gs_event.specs.Histories.{ShowsStart, HasStartPins};
 ghost use Rattle.gs_event.specs.Continuing.{KeepsLegal, ShowsHistory, HasItsPins};
+ghost use Rattle.gs_event.specs.Births.{no_births};
 ghost use Rattle.gs_event.specs.Waste.{nodes_in};
 ghost use Rattle.gs_tree_store.specs.Uses.{UsesNodes, TreeSteps};
 ghost use Rattle.gs_core.specs.Settings.{start_at};
@@ -48,6 +49,7 @@ impl Store {
         ensures view { IfOk result (ShowsStart (start_at seats base.now 0 0)) }
         ensures pinned { IfOk result (HasStartPins (start_at seats base.now 0 0)) }
         ensures waste { IfOk result (λ store. store.waste ≡ []) }
+        ensures births { IfOk result (λ store. store.births ≡ no_births seats) }
         ensures refused { IfErr result (λ refusal. refusal ≡ Refusal.NoMemory) }
     {
         Store::seeded(alloc, seats, base, 0)
@@ -62,6 +64,7 @@ impl Store {
         ensures view { IfOk result (ShowsStart (start_at seats base.now 0 0)) }
         ensures pinned { IfOk result (HasStartPins (start_at seats base.now 0 0)) }
         ensures waste { IfOk result (λ store. store.waste ≡ []) }
+        ensures births { IfOk result (λ store. store.births ≡ no_births seats) }
         ensures refused { IfErr result (λ refusal. refusal ≡ Refusal.NoMemory) }
     {
         Store::made(alloc, seats, base, 0, 0, Storage::of_seed(seed))
@@ -83,6 +86,7 @@ impl Store {
         ensures view { IfOk result (ShowsStart (start_at seats base.now request commit)) }
         ensures pinned { IfOk result (HasStartPins (start_at seats base.now request commit)) }
         ensures waste { IfOk result (λ store. store.waste ≡ []) }
+        ensures births { IfOk result (λ store. store.births ≡ no_births seats) }
         ensures refused { IfErr result (λ refusal. refusal ≡ Refusal.NoMemory) }
     {
         Store::made(alloc, seats, base, commit, request, Storage::of_seed(0))
@@ -104,6 +108,7 @@ impl Store {
         ensures view { IfOk result (ShowsStart (start_at seats base.now 0 0)) }
         ensures pinned { IfOk result (HasStartPins (start_at seats base.now 0 0)) }
         ensures waste { IfOk result (λ store. store.waste ≡ []) }
+        ensures births { IfOk result (λ store. store.births ≡ no_births seats) }
         ensures refused { IfErr result (λ refusal. refusal ≡ Refusal.NoMemory) }
     {
         let storage = Storage {
@@ -128,6 +133,7 @@ impl Store {
         ensures view { IfOk result (ShowsStart (start_at seats base.now request commit)) }
         ensures pinned { IfOk result (HasStartPins (start_at seats base.now request commit)) }
         ensures waste { IfOk result (λ store. store.waste ≡ []) }
+        ensures births { IfOk result (λ store. store.births ≡ no_births seats) }
         ensures refused { IfErr result (λ refusal. refusal ≡ Refusal.NoMemory) }
     {
         let limits = Limits {
@@ -139,7 +145,7 @@ impl Store {
     }
 
     /// Takes one event: the answer fits what the store shows, and the store then shows the next
-    /// view. A refused event changes nothing. An Open takes a record, an upload's list a node for each
+    /// view. A refused event changes nothing but births. An Open takes a record, an upload's list a node for each
     /// triple that is new to the upload, and every other event nothing, but the commits of a POST and of a
     /// patch that took effect: these take no more than `gs_event::steps_take_few` says. A POST beyond the
     /// limits gives back the nodes of its upload, and a Reclaim the nodes and records that it frees.

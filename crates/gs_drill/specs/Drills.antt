@@ -2,6 +2,7 @@
 use Rattle.std.specs.Prelude.{◌≡◌, ◌⊎◌, ℕ, ◌+◌, Bool, true, false, List, [], ◌∷◌, ◌++◌, length, Option, None, Some, codes}
 use Rattle.std.specs.Io.KnownBytes.{Appends}
 use Rattle.gs_event.specs.Datasets.{triples_in}
+use Rattle.gs_event.specs.Births.{no_births}
 use Rattle.gs_event.specs.Histories.{Start, view_of, pinned_of}
 use Rattle.gs_event.specs.Waste.{Shown, nodes_in}
 use Rattle.gs_core.specs.Settings.{setting_of}
@@ -23,7 +24,7 @@ pub record RunState : Type 0 where
 
 -- what a store shows that has no graph yet
 abbrev pub new_store : Start → Shown
-new_store start = record { view = view_of start []; pinned = pinned_of start []; waste = [] }
+new_store start = record { view = view_of start []; pinned = pinned_of start []; waste = []; births = no_births start.seats }
 
 -- a store begins, and nothing was fed
 abbrev pub new_state : Bool → Start → RunState

@@ -26,6 +26,7 @@ use Rattle.gs_event.specs.Operations.{Setting, Patches, Deletes, is_within, unit
 use Rattle.gs_event.specs.Conditions.{asked_since, is_late, status_if, after_if, done_by}
 use Rattle.gs_event.specs.Phases.{Idle, Writing, Patching, Reading, write_of}
 use Rattle.gs_event.specs.Views.{Totals, state_of, View, SeatView, FitsSeat, next_totals, next_phase, next_if}
+use Rattle.gs_event.specs.Births.{NodeBirths}
 use Rattle.gs_event.specs.Waste.{Lifetime, Shown, held_at, held_in, nodes_in}
 use Rattle.gs_event.specs.Wasting.{Joins, UploadNodes, UploadRecords, UpdateNodes, CommitRecords, UpdateRecords, DeleteNodes, DeleteRecords, most_patched, WastesBoth, WastesIf}
 use Rattle.gs_event.specs.Steps.{Frees}
@@ -203,38 +204,38 @@ piece_stages true left = refl
 piece_stages false left = refl
 
 -- the current graphs, the seat's upload and the waste have no more nodes together
-taken_at : (v : Totals) (p : SeatView) (action : Action) (a : Answer) (old new : List Lifetime) → FitsSeat v p action a → WastesBoth v p action a old new
+taken_at : (v : Totals) (p : SeatView) (action : Action) (a : Answer) (seat : ℕ) (births births_then : NodeBirths) (old new : List Lifetime) → FitsSeat v p action a → WastesBoth v seat p action a births births_then old new
     → kept_in (next_totals v p action a).dataset + held_at (next_phase v p action a) + length new ≤ kept_in v.dataset + held_at p + length old + most_taken_at v.dataset p action a
-taken_at v Idle (Open k since) (Opened r) old new fits w = omega (arith, empty_has_none, ap length w.nodes, ap length w.records)
-taken_at v Idle (OpenPatch t since) (Opened r) old new fits w = omega (arith, ap length w.nodes, ap length w.records)
-taken_at v Idle (Delete t since) (Status s name number) old new fits w = deleted_if v t since s old w.between new fits.0 w.nodes w.records
-taken_at v Idle (Head t) (Status s name number) old new fits w = unchanged (kept_in v.dataset + 0) old w.between new w.nodes w.records
-taken_at v Idle (Pin t) (Pinned s number) old new fits w = omega (arith, pin_stages (nat_eq s 200) (lines_in v.dataset t), ap length w.nodes, ap length w.records)
-taken_at v Idle Commit (Status s name number) old new fits w = absurd fits
-taken_at v Idle (CommitPatch ops) (Status s name number) old new fits w = absurd fits
-taken_at v Idle Cancel Cancelled old new fits w = absurd fits
-taken_at v (Writing k r g since) (Stage ts) Staged old new fits w =
+taken_at v Idle (Open k since) (Opened r) i bs cs old new fits w = omega (arith, empty_has_none, ap length w.nodes, ap length w.records)
+taken_at v Idle (OpenPatch t since) (Opened r) i bs cs old new fits w = omega (arith, ap length w.nodes, ap length w.records)
+taken_at v Idle (Delete t since) (Status s name number) i bs cs old new fits w = deleted_if v t since s old w.between new fits.0 w.nodes w.records
+taken_at v Idle (Head t) (Status s name number) i bs cs old new fits w = unchanged (kept_in v.dataset + 0) old w.between new w.nodes w.records
+taken_at v Idle (Pin t) (Pinned s number) i bs cs old new fits w = omega (arith, pin_stages (nat_eq s 200) (lines_in v.dataset t), ap length w.nodes, ap length w.records)
+taken_at v Idle Commit (Status s name number) i bs cs old new fits w = absurd fits
+taken_at v Idle (CommitPatch ops) (Status s name number) i bs cs old new fits w = absurd fits
+taken_at v Idle Cancel Cancelled i bs cs old new fits w = absurd fits
+taken_at v (Writing k r g since) (Stage ts) Staged i bs cs old new fits w =
     omega (arith, graph_few (triples_of g) ts.items, listed_few ts.items, ap length w.nodes, ap length w.records)
-taken_at v (Writing k r g since) Commit (Status s name number) old new fits w = uploaded_if v k r g since s old w.between new fits.0 w.nodes w.records
-taken_at v (Writing k r g since) Cancel Cancelled old new fits w = omega (arith, joined _ _ old w.between w.nodes, joined _ _ w.between new w.records)
-taken_at v (Writing k r g since) (Delete t other) (Status s name number) old new fits w = absurd fits
-taken_at v (Writing k r g since) (CommitPatch ops) (Status s name number) old new fits w = absurd fits
-taken_at v (Patching t r since) (CommitPatch ops) (Status s name number) old new fits w = updated_if v t ops.items since s old w.between new fits.0 w.nodes w.records
-taken_at v (Patching t r since) (Delete u other) (Status s name number) old new fits w = absurd fits
-taken_at v (Patching t r since) Commit (Status s name number) old new fits w = absurd fits
-taken_at v (Patching t r since) Cancel Cancelled old new fits w = omega (arith, ap length w.nodes, joined _ _ w.between new w.records)
-taken_at v (Reading left) (Piece n) (Lines b end) old new fits w = omega (arith, piece_stages end (drop n left), ap length w.nodes, ap length w.records)
-taken_at v (Reading left) (Delete t since) (Status s name number) old new fits w = absurd fits
-taken_at v (Reading left) Commit (Status s name number) old new fits w = absurd fits
-taken_at v (Reading left) (CommitPatch ops) (Status s name number) old new fits w = absurd fits
-taken_at v (Reading left) Cancel Cancelled old new fits w = unchanged (kept_in v.dataset + 0) old w.between new w.nodes w.records
-taken_at v p action a old new fits w = unchanged (kept_in v.dataset + held_at p) old w.between new w.nodes w.records
+taken_at v (Writing k r g since) Commit (Status s name number) i bs cs old new fits w = uploaded_if v k r g since s old w.between new fits.0 w.nodes w.records
+taken_at v (Writing k r g since) Cancel Cancelled i bs cs old new fits w = omega (arith, joined _ _ old w.between w.nodes, joined _ _ w.between new w.records)
+taken_at v (Writing k r g since) (Delete t other) (Status s name number) i bs cs old new fits w = absurd fits
+taken_at v (Writing k r g since) (CommitPatch ops) (Status s name number) i bs cs old new fits w = absurd fits
+taken_at v (Patching t r since) (CommitPatch ops) (Status s name number) i bs cs old new fits w = updated_if v t ops.items since s old w.between new fits.0 w.nodes w.records
+taken_at v (Patching t r since) (Delete u other) (Status s name number) i bs cs old new fits w = absurd fits
+taken_at v (Patching t r since) Commit (Status s name number) i bs cs old new fits w = absurd fits
+taken_at v (Patching t r since) Cancel Cancelled i bs cs old new fits w = omega (arith, ap length w.nodes, joined _ _ w.between new w.records)
+taken_at v (Reading left) (Piece n) (Lines b end) i bs cs old new fits w = omega (arith, piece_stages end (drop n left), ap length w.nodes, ap length w.records)
+taken_at v (Reading left) (Delete t since) (Status s name number) i bs cs old new fits w = absurd fits
+taken_at v (Reading left) Commit (Status s name number) i bs cs old new fits w = absurd fits
+taken_at v (Reading left) (CommitPatch ops) (Status s name number) i bs cs old new fits w = absurd fits
+taken_at v (Reading left) Cancel Cancelled i bs cs old new fits w = unchanged (kept_in v.dataset + 0) old w.between new w.nodes w.records
+taken_at v p action a i bs cs old new fits w = unchanged (kept_in v.dataset + held_at p) old w.between new w.nodes w.records
 
 -- whether or not there is such a seat
 taken_if : (old : Shown) (s : ℕ) (action : Action) (a : Answer) (new : Shown) (o : Option SeatView) → slice_get old.view.seats s ≡ o → MatchOption o (a ≡ Refused BadSeat) (λ p. FitsSeat old.view.totals p action a)
-    → WastesIf old.view.totals o action a old.waste new.waste → new.view ≡ next_if old.view s o action a → nodes_in new ≤ nodes_in old + most_taken_if old.view.totals.dataset o action a
+    → WastesIf old.view.totals s o action a old new → new.view ≡ next_if old.view s o action a → nodes_in new ≤ nodes_in old + most_taken_if old.view.totals.dataset o action a
 taken_if old s action a new None is fits w view =
-    omega (arith, ap length w, ap (λ (v : View). kept_in v.totals.dataset) view, ap (λ (v : View). held_in v.seats) view)
+    omega (arith, ap length w.0, ap (λ (v : View). kept_in v.totals.dataset) view, ap (λ (v : View). held_in v.seats) view)
 taken_if old s action a new (Some p) is fits w view =
     let next = next_phase old.view.totals p action a in
     let seats : sum_by (λ (q : SeatView). held_at q) (slice_set old.view.seats s next) + held_at (get_or old.view.seats s p) ≡ held_in old.view.seats + held_at next =
@@ -242,12 +243,12 @@ taken_if old s action a new (Some p) is fits w view =
     let here : held_at (get_or old.view.seats s p) ≡ held_at p = ap (λ (q : SeatView). held_at q) (get_or_from_slice_get old.view.seats s p p is) in
     let graphs : kept_in new.view.totals.dataset ≡ kept_in (next_totals old.view.totals p action a).dataset = ap (λ (v : View). kept_in v.totals.dataset) view in
     let uploads : held_in new.view.seats ≡ held_in (slice_set old.view.seats s next) = ap (λ (v : View). held_in v.seats) view in
-    omega (arith, seats, here, graphs, uploads, taken_at old.view.totals p action a old.waste new.waste fits w)
+    omega (arith, seats, here, graphs, uploads, taken_at old.view.totals p action a s old.births new.births old.waste new.waste fits w)
 
 -- what is freed is no more in use
 pub gives_back : (old : Shown) (n freed : ℕ) (left : Bool) (new : Shown) → GivesBack old n freed left new
 gives_back old n freed left new step =
-    let w : Frees old.pinned n freed left old.waste new.waste = step.waste in
+    let w : Frees old.pinned n freed left old.waste new.waste = step.waste.0 in
     omega (arith, w.same (λ l. 1), ones new.waste, ones old.waste, ones w.gone, w.many, ap (λ (v : View). kept_in v.totals.dataset) step.view, ap (λ (v : View). held_in v.seats) step.view)
 
 -- each event

@@ -14,6 +14,7 @@ use Rattle.gs_event.specs.Operations.{Setting}
 use Rattle.gs_event.specs.Conditions.{LastWrites}
 use Rattle.gs_event.specs.Phases.{Idle, Writing, Patching, Reading}
 use Rattle.gs_event.specs.Views.{View, SeatView}
+use Rattle.gs_event.specs.Births.{NodeBirths}
 use Rattle.gs_event.specs.Waste.{Lifetime, Shown}
 
 -- the name of a target; the default graph has none
@@ -120,11 +121,20 @@ view_code =
 abbrev pub lifetime_code : Coded Lifetime
 lifetime_code = code_by (ℕ × ℕ) (coded× coded_ℕ coded_ℕ) (λ l. (l.birth, l.death)) (λ p. record { birth = p.0; death = p.1 }) (λ _. refl)
 
--- how what a store shows is stored: its view, the pins of its seats, and its waste
+-- how births are stored: by their owners
+abbrev pub births_code : Coded NodeBirths
+births_code =
+    code_by (List ℕ × (map.FinMap name_cmp (List ℕ) × List (List ℕ)))
+    (coded× (coded_list coded_ℕ) (coded× (map.code text_code (coded_list coded_ℕ)) (coded_list (coded_list coded_ℕ))))
+    (λ b. (b.unnamed, (b.named, b.staged)))
+    (λ p. record { unnamed = p.0; named = p.1.0; staged = p.1.1 })
+    (λ _. refl)
+
+-- how what a store shows is stored: its view, the pins of its seats, its waste, and its births
 abbrev pub shown_code : Coded Shown
 shown_code =
-    code_by (View × (List (Option ℕ) × List Lifetime))
-    (coded× view_code (coded× (coded_list (coded_option coded_ℕ)) (coded_list lifetime_code)))
-    (λ s. (s.view, (s.pinned, s.waste)))
-    (λ p. record { view = p.0; pinned = p.1.0; waste = p.1.1 })
+    code_by (View × (List (Option ℕ) × (List Lifetime × NodeBirths)))
+    (coded× view_code (coded× (coded_list (coded_option coded_ℕ)) (coded× (coded_list lifetime_code) births_code)))
+    (λ s. (s.view, (s.pinned, (s.waste, s.births))))
+    (λ p. record { view = p.0; pinned = p.1.0; waste = p.1.1.0; births = p.1.1.1 })
     (λ _. refl)

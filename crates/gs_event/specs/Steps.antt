@@ -1,4 +1,4 @@
--- One step of a store: what an event that was answered so makes of what it shows, its pins and its waste.
+-- One step of a store: what an event that was answered so makes of what it shows, its pins, its waste and its births.
 use Rattle.std.specs.Prelude.{◌≡◌, ◌≢◌, ◌↔◌, ℕ, ◌+◌, Bool, false, if◌then◌else◌, nat_eq, min, IsTrue, List, [], length, Option, Some, None}
 use Rattle.std.specs.List.{sum_by, slice_get, slice_index_or, slice_set, All}
 use Rattle.gs_event.specs.declared.events.Action.{Action}
@@ -9,6 +9,7 @@ use Rattle.gs_event.specs.declared.answers.Answer.{Answer}
 use Rattle.gs_event.specs.declared.answers.Answer.TheVariants.{Pinned, Lines, Cancelled, Reclaimed}
 use Rattle.gs_event.specs.Views.{Fits, next_view}
 use Rattle.gs_event.specs.Waste.{Lifetime, Shown, is_needed, unneeded}
+use Rattle.gs_event.specs.Born.{HasFewBirths, HasSameBirths}
 use Rattle.gs_event.specs.Wasting.{WastesIf}
 
 -- a seat's pin after an answer, at the last commit number: a read begins with one and ends without
@@ -34,15 +35,17 @@ pub record Frees (pins : List (Option ℕ)) (n freed : ℕ) (left : Bool) (old n
   pub none_needed : All (λ l. is_needed pins l ≡ false) gone
   pub left_is : IsTrue left ↔ (new ≢ [])
 
--- what an event that was answered so makes of the waste
-abbrev pub Wastes : Shown → Event → Answer → List Lifetime → Type 0
-Wastes old (Reclaim n) (Reclaimed freed left) new = Frees old.pinned n freed left old.waste new
+-- what an event that was answered so makes of the waste and of births
+abbrev pub Wastes : Shown → Event → Answer → Shown → Type 0
+Wastes old (Reclaim n) (Reclaimed freed left) new =
+    Frees old.pinned n freed left old.waste new.waste × HasSameBirths old new
 Wastes old (Reclaim n) a new = ⊥
-Wastes old (At s action) a new = WastesIf old.view.totals (slice_get old.view.seats s) action a old.waste new
+Wastes old (At s action) a new = WastesIf old.view.totals s (slice_get old.view.seats s) action a old new
 
 -- the answer fits, and the values before and after it are those of one step
 pub record Steps (old : Shown) (e : Event) (a : Answer) (new : Shown) : Type 0 where
   pub fits : Fits old.view e a
   pub view : new.view ≡ next_view old.view e a
   pub pinned : new.pinned ≡ next_pinned old e a
-  pub waste : Wastes old e a new.waste
+  pub waste : Wastes old e a new
+  pub few : HasFewBirths old → HasFewBirths new

@@ -3,6 +3,7 @@ use Rattle.std.specs.Prelude.{ℕ, ◌+◌, Bool, false, ◌&&◌, nat_le, nat_l
 use Rattle.std.specs.List.{sum_by, list_any}
 use Rattle.gs_model.specs.Graphs.{size_of}
 use Rattle.gs_event.specs.Datasets.{kept_in}
+use Rattle.gs_event.specs.Births.{NodeBirths}
 use Rattle.gs_event.specs.Phases.{Phase, Idle, Writing, Patching, Reading}
 use Rattle.gs_event.specs.Views.{View, SeatView}
 
@@ -12,11 +13,12 @@ pub record Lifetime : Type 0 where
   pub birth : ℕ
   pub death : ℕ
 
--- what a store shows, the commit number at the pin of each seat's read, and the waste
+-- what a store shows, the commit number at the pin of each seat's read, the waste, and births
 pub record Shown : Type 0 where
   pub view : View
   pub pinned : List (Option ℕ)
   pub waste : List Lifetime
+  pub births : NodeBirths
 
 -- how many nodes and records the seat has open: a node for each triple of an upload, and a record of an upload or a patch
 abbrev pub held_at : {R : Type 0} → Phase R → ℕ

@@ -1,5 +1,5 @@
--- What an action makes of the waste of nodes and of records: what joins it, and with which lifetimes.
-use Rattle.std.specs.Prelude.{◌≡◌, ◌<◌, ◌≤◌, ◌⊎◌, ℕ, ◌+◌, ◌*◌, Bool, true, false, List, length, Option, Some, None}
+-- What an action makes of births, and of the waste of nodes and of records: what joins it, and with which lifetimes.
+use Rattle.std.specs.Prelude.{◌≡◌, ◌≢◌, ◌<◌, ◌≤◌, ◌⊎◌, ℕ, ◌+◌, ◌*◌, Bool, true, false, List, length, Option, Some, None}
 use Rattle.std.specs.List.{sum_by, All}
 use Rattle.gs_model.specs.Graphs.{Graph, size_of}
 use Rattle.gs_term.specs.declared.names.Target.{Target}
@@ -16,7 +16,9 @@ use Rattle.gs_event.specs.Operations.{is_success, united}
 use Rattle.gs_event.specs.Conditions.{last_write_on}
 use Rattle.gs_event.specs.Phases.{Writing, Patching}
 use Rattle.gs_event.specs.Views.{Totals, SeatView}
-use Rattle.gs_event.specs.Waste.{Lifetime}
+use Rattle.gs_event.specs.Births.{NodeBirths, births_at, staged_births}
+use Rattle.gs_event.specs.Waste.{Lifetime, Shown}
+use Rattle.gs_event.specs.Born.{AreSameBirths, Bearing, Bears, HasSameBirths}
 
 -- at most so many nodes and records join the waste, each with such a lifetime, and none is taken out; its order means nothing
 pub record Joins (Has : Lifetime → Type 0) (most : ℕ) (old new : List Lifetime) : Type 0 where
@@ -117,13 +119,26 @@ WastesRecords v (Writing k r g since) Cancel Cancelled old new = Joins IsUnreach
 WastesRecords v (Patching t r since) Cancel Cancelled old new = Joins IsUnreached 1 old new
 WastesRecords v p action a old new = new ≡ old
 
--- what an action makes of the waste: first of that of nodes, and then of that of records
-pub record WastesBoth (v : Totals) (p : SeatView) (action : Action) (a : Answer) (old new : List Lifetime) : Type 0 where
+-- the births of the graphs and of this seat's upload
+abbrev pub bearing_of : ℕ → NodeBirths → NodeBirths → List Lifetime → List Lifetime → Bearing
+bearing_of seat births births_then old new = record {
+  graphs = births_at births;
+  graphs_then = births_at births_then;
+  own = staged_births births seat;
+  own_then = staged_births births_then seat;
+  waste = old;
+  waste_then = new;
+}
+
+-- what an action makes of births and of the waste: first of that of nodes, and then of that of records
+pub record WastesBoth (v : Totals) (seat : ℕ) (p : SeatView) (action : Action) (a : Answer) (births births_then : NodeBirths) (old new : List Lifetime) : Type 0 where
   pub between : List Lifetime
   pub nodes : WastesNodes v p action a old between
+  pub born : Bears v p action a (bearing_of seat births births_then old between)
+  pub others : (k : ℕ) → k ≢ seat → AreSameBirths (staged_births births k) (staged_births births_then k)
   pub records : WastesRecords v p action a between new
 
 -- the same, where there may be no such seat
-abbrev pub WastesIf : Totals → Option SeatView → Action → Answer → List Lifetime → List Lifetime → Type 0
-WastesIf v None action a old new = new ≡ old
-WastesIf v (Some p) action a old new = WastesBoth v p action a old new
+abbrev pub WastesIf : Totals → ℕ → Option SeatView → Action → Answer → Shown → Shown → Type 0
+WastesIf v seat None action a old new = (new.waste ≡ old.waste) × HasSameBirths old new
+WastesIf v seat (Some p) action a old new = WastesBoth v seat p action a old.births new.births old.waste new.waste

@@ -71,7 +71,8 @@ below_used p (suc n) h =
     omega (arith, below_used p n (omega arith), more, ap (λ k. count_by is_some (take k p.nodes)) next)
 
 module _ (p : Nodes) (v : Pins) (gs us : List Tree) (rs : List (List Tree)) (ds : List Dead) (l : IsLedger p v gs us rs ds) where
-  within : (x : ℕ) → 0 < used_count p x → x < length p.nodes
+  -- a number in use is a place of the pool
+  pub within : (x : ℕ) → 0 < used_count p x → x < length p.nodes
   within x h = elim (cases_lt x (length p.nodes)) [
     | inl inside ↦ inside
     | inr past ↦ absurd (let none : used_count p x ≡ 0 = ap (λ o. cond {A = ℕ} (is_some o) 1 0) (get_or_past p.nodes x None past) in omega arith)

@@ -9,6 +9,7 @@ pub mod Alone
 pub mod WriteSteps
 pub mod Marked
 pub mod Counts
+pub mod Births
 pub mod Staying
 pub mod Retiring
 pub mod Needing

@@ -42,6 +42,11 @@ dead_have_after v ds x = sum_by (λ d. has_after v d x) ds
 abbrev pub tops : List Dead → ℕ → ℕ
 tops ds x = sum_by (λ d. one d.id x) ds
 
+-- the births of a tree's nodes
+abbrev pub tree_births : Tree → List ℕ
+tree_births leaf = []
+tree_births (fork id birth l k r) = birth ∷ tree_births l ++ tree_births r
+
 -- a tree that died whole: its top, with all below it; nothing, if it is a leaf
 abbrev pub died_whole : ℕ → Tree → List Dead
 died_whole death leaf = []

@@ -9,7 +9,7 @@ ghost use Rattle.gs_ledger.specs.Ledger.{IsLedger};
 ghost use Rattle.gs_ledger.specs.Changes.{AreSameDead, FreesTop};
 ghost use Rattle.gs_ledger.specs.Keeping.{OrderMeansNothing, PutKeeps, CancelKeeps, CopyKeeps, StageKeeps};
 ghost use Rattle.gs_ledger.specs.Keeping.{PinKeeps, UnpinKeeps, PutJoins, CancelJoins, CopyJoins};
-ghost use Rattle.gs_ledger.specs.Laws.{Counts as CountsNodes, NeededStay, MayGo};
+ghost use Rattle.gs_ledger.specs.Laws.{Counts as CountsNodes, StageBirths, CopyBirths, PutBirths, NeededStay, MayGo};
 
 /// The nodes in use are the triples of the current graphs, those of the open uploads, and the waste,
 /// which is what the marks of the pool say.
@@ -57,4 +57,12 @@ pub fn steps_join_the_waste()
 pub fn marks_say_what_is_dead()
     ensures { (p : Nodes) (v : Pins) (graphs uploads : List Tree) (reads : List (List Tree))
         (dead : List Dead) → IsLedger p v graphs uploads reads dead → AreSameDead dead (dead_at p) }
+{}
+
+/// Where nodes are made for the next commit alone, each other birth of an upload or a graph was there, and what a commit takes out keeps
+/// its births.
+pub fn births_go_on()
+    ensures stage { StageBirths }
+    ensures copy { CopyBirths }
+    ensures put { PutBirths }
 {}

@@ -1,6 +1,7 @@
 -- What a run does.
 use Rattle.std.specs.Prelude.{◌≡◌, ◌⊎◌, ◌≤◌, ℕ, List, [], Option, Result, Ok, Err}
 use Rattle.std.specs.Io.KnownBytes.{Appends}
+use Rattle.gs_event.specs.Births.{no_births}
 use Rattle.gs_event.specs.Waste.{Shown}
 use Rattle.gs_event.specs.Steps.{Steps}
 use Rattle.gs_event.specs.Histories.{ShowsStart, HasStartPins}
@@ -43,6 +44,7 @@ pub record ServesConnection (base : List ℕ) (piece : ℕ) (t : Traffic)
   pub shows : ShowsStart (start_at 1 base 0 0) first
   pub pins : HasStartPins (start_at 1 base 0 0) first
   pub waste : first.waste ≡ []
+  pub births : first.births ≡ no_births 1
   pub served : Connection Steps 0 t.unread t.left t.held t.holds first last
       (Holds (record { base = base; piece = piece }) t.left)
 

@@ -5,6 +5,7 @@ ghost use Rattle.gs_event.specs.Datasets.{triples_in};
 ghost use Rattle.gs_event.specs.Views.{Fits, next_view};
 ghost use Rattle.gs_event.specs.Steps.{Steps, next_pinned};
 ghost use Rattle.gs_event.specs.Histories.{start_with, ShowsStart, HasStartPins};
+ghost use Rattle.gs_event.specs.Births.{no_births};
 ghost use Rattle.gs_event.specs.Waste.{nodes_in};
 
 use crate::actions;
@@ -54,6 +55,7 @@ impl PlainStore {
         ensures view { IfOk result (ShowsStart (start_with seats base.now limits request commit)) }
         ensures pinned { IfOk result (HasStartPins (start_with seats base.now limits request commit)) }
         ensures waste { IfOk result (λ store. store.waste ≡ []) }
+        ensures births { IfOk result (λ store. store.births ≡ no_births 0) }
         ensures refused { IfErr result (λ refusal. refusal ≡ Refusal.NoMemory) }
     {
         let idle = idle_seats(alloc, seats)?;
@@ -78,10 +80,11 @@ impl PlainStore {
     }
 
     /// Takes one event. A refused one changes nothing.
-    #[tactic(auto, using(crate::proofs::WasteLemmas::none_wasted, crate::proofs::WasteLemmas::none_freed))]
+    #[tactic(auto, using(crate::proofs::WasteLemmas::none_wasted, crate::proofs::WasteLemmas::none_freed, crate::proofs::WasteLemmas::none_few))]
     pub fn step(&mut self, event: &Event) -> Answer
         ensures steps { Steps self.old event.now result self.new }
         ensures none { self.new.waste ≡ [] }
+        ensures unborn { self.new.births ≡ no_births 0 }
     {
         match event {
             Event::Reclaim(_) => self.reclaim(),
@@ -111,6 +114,7 @@ impl PlainStore {
         ensures answer { result ≡ Answer.Reclaimed 0 false }
         ensures kept { self.new ≡ self.old }
         ensures none { self.old.waste ≡ [] }
+        ensures unborn { self.old.births ≡ no_births 0 }
     {
         let _ = &self.books;
         Answer::Reclaimed(0, false)
@@ -122,6 +126,8 @@ impl PlainStore {
         ensures pinned { self.new.pinned ≡ next_pinned self.old (Event.Seat seat action.now) result }
         ensures before { self.old.waste ≡ [] }
         ensures none { self.new.waste ≡ [] }
+        ensures unborn_before { self.old.births ≡ no_births 0 }
+        ensures unborn { self.new.births ≡ no_births 0 }
     {
         if seat >= self.seats.len() {
             return Answer::Refused(Refusal::BadSeat);

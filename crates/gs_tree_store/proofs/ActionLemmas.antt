@@ -26,19 +26,22 @@ use Rattle.gs_records.specs.Records.{Recorded}
 use Rattle.gs_records.specs.Births.{Births}
 use Rattle.gs_records.specs.Calls.{Opens}
 use Rattle.gs_quads.specs.Places.{Place}
+use Rattle.gs_ledger.specs.Entries.{tree_births}
 use Rattle.gs_ledger.specs.Marks.{dead_at, waste_at}
 use Rattle.gs_ledger.specs.Ledger.{IsLedger}
 use Rattle.gs_commit.specs.Commits.{DropsAll}
 use Rattle.gs_commit.proofs.DeadLemmas.{tree_at_same}
 use Rattle.gs_commit.proofs.LawLemmas.{leaf_upload}
-use Rattle.gs_datasets.specs.Standing.{dataset_at, all_versions, graph_trees, IsVersion}
+use Rattle.gs_datasets.specs.Standing.{dataset_at, all_versions, graph_trees, target_tree, IsVersion}
 use Rattle.gs_tree_store.specs.declared.books.Books.{Books}
 use Rattle.gs_tree_store.specs.declared.books.Seat.{Seat}
 use Rattle.gs_tree_store.specs.declared.books.Seat.TheVariants.{Idle, Writing, Patching, Reading, ReadingAll}
 use Rattle.gs_tree_store.specs.Books.{graphs_of, books_setting, IsReady}
+use Rattle.gs_tree_store.specs.Births.{graph_births}
 use Rattle.gs_tree_store.specs.Writes.{HasUpload, GivesUpUpload}
 use Rattle.gs_tree_store.specs.Actions.{Acts}
 use Rattle.gs_tree_store.proofs.CommitLemmas.{empty_is}
+use Rattle.gs_tree_store.proofs.BornLemmas.{equal_births, roots_bear}
 use Rattle.gs_tree_store.proofs.AlikeLemmas.{SameNow, gives_up_same, acts_alike}
 use Rattle.gs_tree_store.proofs.WriteLemmas.{has_upload}
 use Rattle.gs_tree_store.proofs.UndoneLemmas.{read_over}
@@ -77,6 +80,7 @@ opened_now b s k n since x number opens ready =
         waste = refl;
       };
       takes = refl;
+      born = ((λ u. equal_births (graph_births b u) (graph_births new u) (ap (λ h. tree_births (target_tree p h u)) now)), λ f. refl);
     }
 
 pub upload_opened : (b : Books) (s : ℕ) (seat : Seat) (k j : UploadKind) (v : GraphVersion) (n : ℕ) (since : Option ℕ) (x : Recorded) → seat ≡ Idle → j ≡ k → v ≡ empty_version → b.request < last_number → Opens b.records x n → IsReady b s seat
@@ -128,6 +132,7 @@ upload_dropped b s k r v o since q nodes aside drops ready =
             waste = subst (λ n. Joins IsUnreached n (waste_at p) (waste_at q)) (sym size) dropped.waste;
           };
       takes = ap (λ ns. count_by is_some ns) nodes;
+      born = ((λ u. equal_births (graph_births b u) (graph_births (record b { pool = q }) u) (roots_bear b (record b { pool = q }) means refl u)), refl);
     }
 
 pub upload_cancelled : (b c : Books) (s : ℕ) (seat : Seat) (k : UploadKind) (r : ℕ) (v : GraphVersion) (o : ℕ) (since : Option ℕ) → seat ≡ Writing k r v o since → GivesUpUpload b c o v → IsReady b s seat → Acts b c s seat Idle Cancel Cancelled
@@ -150,6 +155,7 @@ patch_dropped b s t r o since ready = record {
   grows = still_grows b.dict b.dict refl;
   ledgers = λ us rs l. record { ledger = ledger_stays b s Idle us rs l.read l.there l.ledger; waste = refl };
   takes = refl;
+  born = (λ u f. refl, λ f. refl);
 }
 
 pub patch_cancelled : (b c : Books) (s : ℕ) (seat : Seat) (t : Target) (r o : ℕ) (since : Option ℕ) (x : Recorded) → seat ≡ Patching t r o since → c ≡ record b { records = x } → SameNow b.records x → IsReady b s seat → Acts b c s seat Idle Cancel Cancelled
@@ -159,7 +165,7 @@ patch_cancelled b c s seat t r o since x patches is same =
 
 -- a read is given up
 read_dropped : (b : Books) (s : ℕ) (root : Option ℕ) (last : Option Key) → IsReady b s (Reading root last) → Acts b (record b { versions = with_pin b.versions s None }) s (Reading root last) Idle Cancel Cancelled
-read_dropped b s root last ready = read_over b s (Reading root last) Cancel Cancelled tt refl refl refl refl refl refl ready
+read_dropped b s root last ready = read_over b s (Reading root last) Cancel Cancelled tt refl refl refl refl refl refl (λ x none. none) ready
 
 pub read_cancelled : (b c : Books) (s : ℕ) (seat : Seat) (root : Option ℕ) (last : Option Key) (w : Pins) → seat ≡ Reading root last → c ≡ record b { versions = w } → w ≡ with_pin b.versions s None → IsReady b s seat → Acts b c s seat Idle Cancel Cancelled
 read_cancelled b c s seat root last w reads is pin =
@@ -168,7 +174,7 @@ read_cancelled b c s seat root last w reads is pin =
 
 -- a read of all graphs is given up
 all_dropped : (b : Books) (s v : ℕ) (last : Option Place) → IsReady b s (ReadingAll v last) → Acts b (record b { versions = with_pin b.versions s None }) s (ReadingAll v last) Idle Cancel Cancelled
-all_dropped b s v last ready = read_over b s (ReadingAll v last) Cancel Cancelled tt refl refl refl refl refl refl ready
+all_dropped b s v last ready = read_over b s (ReadingAll v last) Cancel Cancelled tt refl refl refl refl refl refl (λ x none. none) ready
 
 pub all_cancelled : (b c : Books) (s : ℕ) (seat : Seat) (v : ℕ) (last : Option Place) (w : Pins) → seat ≡ ReadingAll v last → c ≡ record b { versions = w } → w ≡ with_pin b.versions s None → IsReady b s seat → Acts b c s seat Idle Cancel Cancelled
 all_cancelled b c s seat v last w reads is pin =

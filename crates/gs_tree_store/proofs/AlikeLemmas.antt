@@ -3,10 +3,12 @@ use Rattle.std.proofs.Common.{◌≡◌, ℕ, [], ◌∷◌, set, sym, ap, subst
 use Rattle.std.specs.List.{All}
 use Rattle.gs_event.specs.declared.events.Action.{Action}
 use Rattle.gs_event.specs.declared.answers.Answer.{Answer}
+use Rattle.gs_event.specs.Born.{Bears}
 use Rattle.gs_tree.specs.Tree.{leaf}
-use Rattle.gs_ledger.specs.Marks.{dead_at}
+use Rattle.gs_ledger.specs.Entries.{tree_births}
+use Rattle.gs_ledger.specs.Marks.{dead_at, waste_at}
 use Rattle.gs_ledger.specs.Ledger.{IsLedger}
-use Rattle.gs_datasets.specs.Standing.{dataset_at, all_versions, graph_trees, IsVersion}
+use Rattle.gs_datasets.specs.Standing.{dataset_at, all_versions, graph_trees, target_tree, IsVersion}
 use Rattle.gs_records.specs.Records.{Recorded}
 use Rattle.gs_records.specs.Graphs.{current}
 use Rattle.gs_records.specs.Births.{Births, births_of}
@@ -15,7 +17,8 @@ use Rattle.gs_tree_store.specs.declared.books.Books.{Books}
 use Rattle.gs_tree_store.specs.declared.books.Seat.{Seat}
 use Rattle.gs_tree_store.specs.declared.books.Seat.TheVariants.{Idle}
 use Rattle.gs_tree_store.specs.LastWrites.{last_writes_of}
-use Rattle.gs_tree_store.specs.Books.{books_setting, dataset_of, IsSound}
+use Rattle.gs_tree_store.specs.Books.{books_setting, dataset_of, totals_of, seat_view_by, IsSound}
+use Rattle.gs_tree_store.specs.Births.{graph_births, upload_births}
 use Rattle.gs_tree_store.specs.Actions.{Acts}
 
 -- the graphs of now, the commits that made their records and the last commit are the same
@@ -73,4 +76,14 @@ module _ (c : Books) (r : Recorded) (same : SameNow c.records r) where
           waste = on.waste;
         };
     takes = acts.takes;
+    born = subst (λ x. Bears (totals_of b) (seat_view_by b was) action answer x)
+        (λ i. record {
+          graphs = graph_births b;
+          graphs_then = λ u. tree_births (target_tree c.pool (sym same.graphs i) u);
+          own = upload_births b was;
+          own_then = [];
+          waste = waste_at b.pool;
+          waste_then = waste_at c.pool;
+        })
+        acts.born;
   }

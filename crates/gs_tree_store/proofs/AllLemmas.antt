@@ -99,6 +99,7 @@ module _ (b : Books) (s : ℕ) (single : AreSingle b.records.records) (listed : 
           waste = refl;
         };
         takes = refl;
+        born = (λ u f. refl, λ f. refl);
       }
 
 pub pin_all_found : (b : Books) (s : ℕ) (seat : Seat) (v : ℕ) (w : Pins) → seat ≡ Idle → v ≡ w.commit → w ≡ with_pin b.versions s (Some b.versions.commit)
@@ -131,6 +132,7 @@ more_of_all b s v last count piece some more p ready = record {
   grows = still_grows b.dict b.dict refl;
   ledgers = λ us rs l. record { ledger = ledger_stays b s (ReadingAll v piece.last) us rs l.read l.there l.ledger; waste = refl };
   takes = refl;
+  born = (λ u f. refl, λ f. refl);
 }
 
 pub all_more : (b : Books) (s : ℕ) (seat : Seat) (v : ℕ) (last : Option Place) (count : ℕ) (piece : QuadPiece) → seat ≡ ReadingAll v last → 0 < count → piece.is_end ≡ false → IsQuadPiece b.dict.terms b.pool v b.records last count piece → IsReady b s seat
@@ -141,7 +143,7 @@ all_more b s seat v last count piece reads some more p =
 -- the last piece
 none_of_all : (b : Books) (s v : ℕ) (last : Option Place) (count : ℕ) (piece : QuadPiece) → 0 < count → piece.is_end ≡ true → IsQuadPiece b.dict.terms b.pool v b.records last count piece → IsReady b s (ReadingAll v last)
     → Acts b (record b { versions = with_pin b.versions s None }) s (ReadingAll v last) Idle (PieceOf count) (Lines piece.bytes true)
-none_of_all b s v last count piece some ends p ready = read_over b s (ReadingAll v last) (PieceOf count) (Lines piece.bytes true) (some, p.bytes, sym ends ∙ p.end) refl refl refl refl refl refl ready
+none_of_all b s v last count piece some ends p ready = read_over b s (ReadingAll v last) (PieceOf count) (Lines piece.bytes true) (some, p.bytes, sym ends ∙ p.end) refl refl refl refl refl refl (λ x none. none) ready
 
 pub all_last : (b : Books) (s : ℕ) (seat : Seat) (v : ℕ) (last : Option Place) (count : ℕ) (piece : QuadPiece) (w : Pins) → seat ≡ ReadingAll v last → 0 < count → piece.is_end ≡ true → IsQuadPiece b.dict.terms b.pool v b.records last count piece
     → w ≡ with_pin b.versions s None → IsReady b s seat → Acts b (record b { versions = w }) s seat Idle (PieceOf count) (Lines piece.bytes true)

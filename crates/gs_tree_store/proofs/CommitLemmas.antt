@@ -10,6 +10,7 @@ use Rattle.gs_term.specs.declared.names.Target.{Target}
 use Rattle.gs_term.specs.declared.names.Target.TheVariants.{Default, Named}
 use Rattle.gs_event.specs.Datasets.{with_graph, size_at}
 use Rattle.gs_event.specs.Conditions.{with_write, with_delete}
+use Rattle.gs_event.specs.Born.{Leave}
 use Rattle.gs_event.specs.Wasting.{Joins, EndsAt, DeleteRecords}
 use Rattle.gs_pool.specs.Pool.{Nodes, aside_count}
 use Rattle.gs_tree.specs.Tree.{Tree, leaf, root_of, keys, tree_at}
@@ -21,10 +22,11 @@ use Rattle.gs_records.specs.Graphs.{without_version}
 use Rattle.gs_records.specs.Waste.{waste_in}
 use Rattle.gs_records.specs.Calls.{KeepsCounts, MakesCurrent}
 use Rattle.gs_versions.specs.Pins.{Pins, at_commit}
-use Rattle.gs_ledger.specs.Entries.{Dead}
+use Rattle.gs_ledger.specs.Entries.{Dead, tree_births}
 use Rattle.gs_ledger.specs.Marks.{dead_at, waste_at}
 use Rattle.gs_ledger.specs.Ledger.{IsLedger}
 use Rattle.gs_ledger.specs.Changes.{AreSameTrees, AreSameDead}
+use Rattle.gs_ledger.proofs.Births.{put_births}
 use Rattle.gs_ledger.proofs.Orders.{reorder_ledger}
 use Rattle.gs_ledger.proofs.Marked.{same_trees}
 use Rattle.gs_reclaim.specs.Reclaims.{CanRetireRoot}
@@ -41,9 +43,11 @@ use Rattle.gs_commit.proofs.LawLemmas.{leaf_upload}
 use Rattle.gs_tree_store.specs.declared.books.Books.{Books}
 use Rattle.gs_tree_store.specs.LastWrites.{last_writes_of, WasWritten, by_target}
 use Rattle.gs_tree_store.specs.Books.{graphs_of, dataset_of, totals_of, IsFound, IsSound, HasLedger}
+use Rattle.gs_tree_store.specs.Births.{graph_births}
 use Rattle.gs_tree_store.specs.Opened.{IsOpened, SameOpened}
-use Rattle.gs_tree_store.specs.Writes.{KeepsBooks, EndsOneVersion, Puts, Removes}
+use Rattle.gs_tree_store.specs.Writes.{KeepsBooks, SetsBirths, EndsOneVersion, Puts, Removes}
 use Rattle.gs_tree_store.proofs.WrittenLemmas.{put_writes, put_written}
+use Rattle.gs_tree_store.proofs.BornLemmas.{set_bears, gone_bears}
 use Rattle.gs_tree_store.proofs.RecordLemmas.{commit_wastes}
 use Rattle.gs_tree_store.proofs.OpenedLemmas.{AllSame, all_put, put_lets_go}
 
@@ -60,7 +64,7 @@ tree_if p None = refl
 tree_if p (Some v) = refl
 
 -- its root means the target's tree
-tree_of_target : (p : Nodes) (g : GraphVersions) (t : Target) → tree_at p (version_or g t).root ≡ target_tree p g t
+pub tree_of_target : (p : Nodes) (g : GraphVersions) (t : Target) → tree_at p (version_or g t).root ≡ target_tree p g t
 tree_of_target p g t = tree_if p (version_at g t)
 
 -- dead nodes are the same as themselves
@@ -84,7 +88,7 @@ module _ (terms : List Term) (p : Nodes) (g : GraphVersions) (t : Target) (all :
   keys_if (Some v) is = sym (all_target (IsVersion terms p) g t v is all).counted
 
   -- it has as many keys as the target has triples
-  keys_of_target : length (keys (tree_at p (version_or g t).root)) ≡ size_at (dataset_at terms p g) t
+  pub keys_of_target : length (keys (tree_at p (version_or g t).root)) ≡ size_at (dataset_at terms p g) t
   keys_of_target = keys_if (version_at g t) refl ∙ sym (size_at-is terms p g t all)
 
   -- its root can be retired
@@ -175,7 +179,7 @@ module _ (old new : Books) (t : Target) (e : EndsTree old new (version_or (graph
   }
 
   -- the tree of the upload is that of a graph now
-  ends_now : (tree : Tree) → AreSameTrees (tree ∷ other_trees old.pool (graphs_of old) t) (graph_trees new.pool g) → (us : List Tree) (rs : List (List Tree)) → HasLedger old (tree ∷ us) rs → EndsOneVersion old new (size_at (dataset_of old) t) us rs
+  ends_now : (tree : Tree) → AreSameTrees (tree ∷ other_trees old.pool (graphs_of old) t) (graph_trees new.pool g) → (us : List Tree) (rs : List (List Tree)) → HasLedger old (tree ∷ us) rs → EndsOneVersion old new (size_at (dataset_of old) t) (graph_births old t) us rs
   ends_now tree trees us rs l =
       let p = old.pool in
       let q = new.pool in
@@ -186,6 +190,9 @@ module _ (old new : Books) (t : Target) (e : EndsTree old new (version_or (graph
         ledger = subst (λ h. IsLedger q new.versions (graph_trees q h) us rs (dead_at q)) (sym written)
             (reorder_ledger q new.versions (tree ∷ others) (graph_trees q g) us us rs (dead_at q) (dead_at q) trees (same_trees us) (same_dead (dead_at q)) h.ledger);
         waste = subst (λ n. Joins (EndsAt (old.versions.commit + 1)) n (waste_at p) (waste_at q)) (keys_of_target old.dict.terms p (graphs_of old) t sound.versions) h.waste;
+        leave = subst (λ x. Leave old.versions.commit (tree_births x) (waste_at p) (waste_at q)) (tree_of_target p (graphs_of old) t)
+            (put_births p q old.versions new.versions (length (keys (tree_at p root))) (tree_at p root) tree others us rs rs (dead_at p) (dead_at q)
+            (apart_ledger p old.versions (graphs_of old) t (tree ∷ us) rs (dead_at p) l) h.ledger (λ x. ap (λ ns. get_or ns x None) e.nodes) h.waste);
       }
 
 -- the target has the version, and no upload has its tree
@@ -193,7 +200,8 @@ record Sets (old new : Books) (t : Target) (u : GraphVersion) : Type 0 where
   pub dataset : dataset_of new ≡ with_graph (dataset_of old) t (graph_of_root old.dict.terms old.pool u.root)
   pub kept : KeepsBooks old new
   pub sound : IsSound new
-  pub ledgers : (us : List Tree) (rs : List (List Tree)) → HasLedger old (tree_at old.pool u.root ∷ us) rs → EndsOneVersion old new (size_at (dataset_of old) t) us rs
+  pub ledgers : (us : List Tree) (rs : List (List Tree)) → HasLedger old (tree_at old.pool u.root ∷ us) rs → EndsOneVersion old new (size_at (dataset_of old) t) (graph_births old t) us rs
+  pub births : SetsBirths old new t (tree_births (tree_at old.pool u.root))
 
 version_set : (old new : Books) (t : Target) (u : GraphVersion) → EndsTree old new (version_or (graphs_of old) t).root → graphs_of new ≡ with_version (graphs_of old) t u → IsLast new
     → IsSound old → IsVersion old.dict.terms old.pool u → old.versions.commit < last_number → Sets old new t u
@@ -213,6 +221,7 @@ version_set old new t u e graphs latest sound is number =
       kept = kept_books old new (version_or g t).root e;
       sound = sound_now old new t e sound number h graphs latest (subst (λ ts. All (IsVersion ts q) (all_versions h)) (append-nil terms) sets.versions);
       ledgers = ends_now old new t e sound number h graphs latest (tree_at p u.root) (subst (λ x. AreSameTrees (x ∷ other_trees p g t) (graph_trees q h)) tree sets.trees);
+      births = subst (λ x. SetsBirths old new t (tree_births x)) tree (set_bears old new t u graphs (others_same old new t e sound number h graphs latest));
     }
 
 -- the target has the upload's version, and the open record of number n is that of it
@@ -227,6 +236,7 @@ put_made old new n t u commit e puts last write delete was sound is number =
       kept = sets.kept;
       sound = sets.sound;
       ledgers = sets.ledgers;
+      births = sets.births;
       lets_go = put_lets_go old new n t u commit puts;
       same = all_put old new n t u commit (omega (arith, next)) was puts;
       counts = puts.counts;
@@ -234,8 +244,8 @@ put_made old new n t u commit e puts last write delete was sound is number =
     }
 
 -- the ledger of a Delete: a leaf is no upload
-leaf_ends : (old new : Books) (size : ℕ) → ((us : List Tree) (rs : List (List Tree)) → HasLedger old (leaf ∷ us) rs → EndsOneVersion old new size us rs) → (us : List Tree) (rs : List (List Tree)) → HasLedger old us rs → EndsOneVersion old new size us rs
-leaf_ends old new size ends us rs l = ends us rs ((leaf_upload old.pool old.versions (graph_trees old.pool (graphs_of old)) us rs (dead_at old.pool)).0 l)
+leaf_ends : (old new : Books) (size : ℕ) (births : List ℕ) → ((us : List Tree) (rs : List (List Tree)) → HasLedger old (leaf ∷ us) rs → EndsOneVersion old new size births us rs) → (us : List Tree) (rs : List (List Tree)) → HasLedger old us rs → EndsOneVersion old new size births us rs
+leaf_ends old new size births ends us rs l = ends us rs ((leaf_upload old.pool old.versions (graph_trees old.pool (graphs_of old)) us rs (dead_at old.pool)).0 l)
 
 -- The version of the target's graph ended.
 module _ (old new : Books) (latest : IsLast new) (same : SameOpened old new) (stays : AllSame old new) (counts : KeepsCounts old.records.records new.records.records) (sound : IsSound old) (number : old.versions.commit < last_number) where
@@ -248,8 +258,8 @@ module _ (old new : Books) (latest : IsLast new) (same : SameOpened old new) (st
   Wastes t = DeleteRecords (totals_of old) t true (waste_in old.records.records) (waste_in new.records.records)
 
   -- the default graph is empty
-  emptied : Writes Default → Wastes Default → EndsTree old new (version_or (graphs_of old) Default).root → graphs_of new ≡ with_version (graphs_of old) Default empty_version → Removes old new Default
-  emptied writes wastes e written =
+  emptied : SetsBirths old new Default [] → Writes Default → Wastes Default → EndsTree old new (version_or (graphs_of old) Default).root → graphs_of new ≡ with_version (graphs_of old) Default empty_version → Removes old new Default
+  emptied births writes wastes e written =
       let terms = old.dict.terms in
       let none : graph_of_root terms old.pool None ≡ empty_graph = refl in
       let sets = version_set old new Default empty_version e written latest sound (empty_is terms old.pool) number in
@@ -258,7 +268,8 @@ module _ (old new : Books) (latest : IsLast new) (same : SameOpened old new) (st
         last_writes = writes;
         kept = sets.kept;
         sound = sets.sound;
-        ledgers = leaf_ends old new (size_at (dataset_of old) Default) sets.ledgers;
+        ledgers = leaf_ends old new (size_at (dataset_of old) Default) (graph_births old Default) sets.ledgers;
+        births = births;
         same_opened = same;
         same = stays;
         counts = counts;
@@ -266,8 +277,8 @@ module _ (old new : Books) (latest : IsLast new) (same : SameOpened old new) (st
       }
 
   -- a name is gone
-  taken_out : (n : List ℕ) → Writes (Named n) → Wastes (Named n) → EndsTree old new (version_or (graphs_of old) (Named n)).root → graphs_of new ≡ without_name (graphs_of old) n → Removes old new (Named n)
-  taken_out n writes wastes e graphs =
+  taken_out : (n : List ℕ) → SetsBirths old new (Named n) [] → Writes (Named n) → Wastes (Named n) → EndsTree old new (version_or (graphs_of old) (Named n)).root → graphs_of new ≡ without_name (graphs_of old) n → Removes old new (Named n)
+  taken_out n births writes wastes e graphs =
       let terms = old.dict.terms in
       let p = old.pool in
       let q = new.pool in
@@ -280,7 +291,8 @@ module _ (old new : Books) (latest : IsLast new) (same : SameOpened old new) (st
         last_writes = writes;
         kept = kept_books old new (version_or g t).root e;
         sound = sound_now old new t e sound number h graphs latest takes.versions;
-        ledgers = leaf_ends old new (size_at (dataset_of old) t) (ends_now old new t e sound number h graphs latest leaf takes.trees);
+        ledgers = leaf_ends old new (size_at (dataset_of old) t) (graph_births old t) (ends_now old new t e sound number h graphs latest leaf takes.trees);
+        births = births;
         same_opened = same;
         same = stays;
         counts = counts;
@@ -288,5 +300,5 @@ module _ (old new : Books) (latest : IsLast new) (same : SameOpened old new) (st
       }
 
   pub removed : (t : Target) → Writes t → Wastes t → EndsTree old new (version_or (graphs_of old) t).root → graphs_of new ≡ without_version (graphs_of old) t → Removes old new t
-  removed Default = emptied
-  removed (Named n) = taken_out n
+  removed Default writes wastes e graphs = emptied (gone_bears old new Default graphs (roots_same old.pool new.pool e.nodes)) writes wastes e graphs
+  removed (Named n) writes wastes e graphs = taken_out n (gone_bears old new (Named n) graphs (roots_same old.pool new.pool e.nodes)) writes wastes e graphs

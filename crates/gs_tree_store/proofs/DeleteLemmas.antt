@@ -10,6 +10,7 @@ use Rattle.gs_event.specs.Datasets.{Dataset, without_graph, is_there, size_at}
 use Rattle.gs_event.specs.Operations.{Deletes, after, is_success}
 use Rattle.gs_event.specs.Conditions.{asked_since, is_above, is_late, last_write_on, with_delete}
 use Rattle.gs_event.specs.Views.{state_of}
+use Rattle.gs_event.specs.Born.{DeleteBears}
 use Rattle.gs_event.specs.Wasting.{DeleteNodes}
 use Rattle.gs_staging.proofs.KeyLemmas.{still_grows}
 use Rattle.gs_ledger.specs.Marks.{dead_at, waste_at}
@@ -21,8 +22,10 @@ use Rattle.gs_tree_store.specs.declared.books.Books.{Books}
 use Rattle.gs_tree_store.specs.declared.books.Seat.TheVariants.{Idle}
 use Rattle.gs_tree_store.specs.LastWrites.{last_writes_of, late_write_of}
 use Rattle.gs_tree_store.specs.Books.{graphs_of, books_setting, dataset_of, totals_of, IsFound, IsReady}
+use Rattle.gs_tree_store.specs.Births.{graph_births}
 use Rattle.gs_tree_store.specs.Writes.{EndsOneVersion, Removes}
-use Rattle.gs_tree_store.specs.Actions.{Acts}
+use Rattle.gs_tree_store.specs.Actions.{bearing_by, Acts}
+use Rattle.gs_tree_store.proofs.BornLemmas.{equal_births}
 use Rattle.gs_tree_store.proofs.ConditionLemmas.{ComesTo, fits_so, totals_so, comes_late, comes_done, comes_undone, no_number, change_late}
 use Rattle.gs_tree_store.proofs.UndoneLemmas.{nothing_done}
 use Rattle.gs_tree_store.proofs.WriteLemmas.{idle_ledger, same_use}
@@ -57,12 +60,18 @@ deleted old new s t since status number removes in_time there is left last ready
       version = tt;
       grows = still_grows old.dict new.dict kept.dict;
       ledgers = λ us rs l.
-          let e : EndsOneVersion old new (size_at m t) us rs = removes.ledgers us rs ((leaf_upload old.pool old.versions (graph_trees old.pool (graphs_of old)) us rs (dead_at old.pool)).1 l.ledger) in
+          let e : EndsOneVersion old new (size_at m t) (graph_births old t) us rs = removes.ledgers us rs ((leaf_upload old.pool old.versions (graph_trees old.pool (graphs_of old)) us rs (dead_at old.pool)).1 l.ledger) in
           record {
             ledger = idle_ledger new s us rs l.there l.read e.ledger;
             waste = subst (λ b. DeleteNodes (totals_of old) t b (waste_at old.pool) (waste_at new.pool)) (sym well) e.waste;
           };
       takes = same_use old.pool new.pool kept.nodes;
+      born =
+          let own = ready.ledger in
+          let gs = graph_trees old.pool (graphs_of old) in
+          let e : EndsOneVersion old new (size_at m t) (graph_births old t) own.uploads own.reads = removes.ledgers own.uploads own.reads ((leaf_upload old.pool old.versions gs own.uploads own.reads (dead_at old.pool)).1 own.ledger.ledger) in
+          subst (λ x. DeleteBears old.versions.commit t x (bearing_by old new Idle Idle)) (sym well)
+          ((λ u other. equal_births (graph_births old u) (graph_births new u) (removes.births.others u other)), removes.births.own, e.leave, λ f. refl);
     })
 
 -- a Delete without effect: nothing changes
@@ -84,6 +93,7 @@ not_deleted b s t since status number comes fails ready =
         waste = subst (λ x. DeleteNodes (totals_of b) t x (waste_at b.pool) (waste_at b.pool)) (sym fails) refl;
       };
       takes = refl;
+      born = subst (λ x. DeleteBears b.versions.commit t x (bearing_by b b Idle Idle)) (sym fails) (λ u f. refl, λ f. refl);
     }
 
 pub delete_missing : (b : Books) (s : ℕ) (t : Target) (since : Option ℕ) → is_there (dataset_of b) t ≡ false → IsReady b s Idle → Acts b b s Idle Idle (Delete t since) (Status 404 None b.versions.commit)
@@ -103,4 +113,4 @@ delete_late b s t since number there is =
 pub delete_refused : (b : Books) (s : ℕ) (t : Target) (since : Option ℕ) → is_late (state_of (totals_of b)) since (Deletes t) ≡ false → is_there (dataset_of b) t ≡ true → last_number ≤ b.versions.commit → IsReady b s Idle → Acts b b s Idle Idle (Delete t since) (Refused LastNumber)
 delete_refused b s t since in_time there last =
     let would = ap (λ y. is_success (cond {A = ℕ} y 204 404)) there in
-    nothing_done b s Idle (Delete t since) (Refused LastNumber) (no_number (totals_of b) (asked_since since (Deletes t)) in_time would last) refl refl refl refl refl
+    nothing_done b s Idle (Delete t since) (Refused LastNumber) (no_number (totals_of b) (asked_since since (Deletes t)) in_time would last) refl refl refl refl refl (λ x none. none)

@@ -13,6 +13,7 @@ use Rattle.gs_event.specs.Datasets.{with_graph, graph_at as graph_of_target}
 use Rattle.gs_event.specs.Operations.{united}
 use Rattle.gs_event.specs.Conditions.{with_write}
 use Rattle.gs_event.specs.Waste.{Lifetime}
+use Rattle.gs_event.specs.Born.{Renews}
 use Rattle.gs_event.specs.Wasting.{Joins, EndsAt}
 use Rattle.gs_dict.specs.Numbering.{Numbered, IsDistinct}
 use Rattle.gs_pool.specs.Pool.{Nodes, aside_count, IsParted}
@@ -20,7 +21,7 @@ use Rattle.gs_pool.specs.declared.nodes.Key.{Key}
 use Rattle.gs_tree.specs.Keys.{merge_keys}
 use Rattle.gs_tree.proofs.Merging.{length_merge}
 use Rattle.gs_tree.specs.Tree.{Tree, occurrences, tree_at}
-use Rattle.gs_tree.specs.Steps.{Step}
+use Rattle.gs_tree.specs.Steps.{Step, BornAt}
 use Rattle.gs_tree.specs.Reading.{keys_at}
 use Rattle.gs_keys.specs.Texts.{triple_at, key_cmp, key_total}
 use Rattle.gs_keys.specs.Roots.{graph_of_root}
@@ -39,7 +40,9 @@ use Rattle.gs_records.specs.Records.{Recorded}
 use Rattle.gs_records.specs.Calls.{MakesCurrent}
 use Rattle.gs_records.specs.Graphs.{current}
 use Rattle.gs_versions.specs.Pins.{Pins, at_commit}
+use Rattle.gs_ledger.specs.Entries.{tree_births}
 use Rattle.gs_ledger.specs.Marks.{dead_at, waste_at}
+use Rattle.gs_ledger.proofs.Births.{copy_births}
 use Rattle.gs_ledger.specs.Ledger.{IsTreeOf, IsLedger}
 use Rattle.gs_ledger.specs.Changes.{AreSameTrees}
 use Rattle.gs_ledger.proofs.Orders.{reorder_ledger}
@@ -53,9 +56,12 @@ use Rattle.gs_datasets.proofs.Writing.{one_is_set}
 use Rattle.gs_tree_store.specs.declared.books.Books.{Books}
 use Rattle.gs_tree_store.specs.LastWrites.{last_writes_of, WasWritten, by_target}
 use Rattle.gs_tree_store.specs.Books.{graphs_of, dataset_of, IsSound, HasLedger}
+use Rattle.gs_tree_store.specs.Births.{graph_births}
+use Rattle.gs_tree_store.specs.Writes.{SetsBirths}
 use Rattle.gs_tree_store.specs.Drafts.{CanDraft, IsRun, Drafts}
 use Rattle.gs_tree_store.proofs.WrittenLemmas.{put_writes, put_written}
-use Rattle.gs_tree_store.proofs.CommitLemmas.{version_or, same_dead, apart_ledger, roots_same, still_version}
+use Rattle.gs_tree_store.proofs.BornLemmas.{born_nodes, born_then, set_bears}
+use Rattle.gs_tree_store.proofs.CommitLemmas.{version_or, tree_of_target, same_dead, apart_ledger, roots_same, still_version}
 
 -- a change of the tree of a version that can have a draft is one
 pub drafted : (birth : ℕ) (terms grown : List Term) (p q : Nodes) (old v : GraphVersion) (g : Graph) (added removed most : ℕ) → CanDraft birth terms p old → IsParted p → ChangesAt (key_cmp grown) birth p q old.root v.root added removed → IsStaged grown q v.root
@@ -87,10 +93,12 @@ pub united_target : (b : Books) (t : Target) (g : Graph) → with_triples (graph
 united_target b t g =
     sym (ap (λ o. united o g) (graph_at-is b.dict.terms b.pool (graphs_of b) t) ∙ united_if b.dict.terms b.pool (version_at (graphs_of b) t) g)
 
--- the ledger goes on, and so many nodes at most join the waste
-pub record KeptEnds (old new : Books) (most : ℕ) (us : List Tree) (rs : List (List Tree)) : Type 0 where
+-- the ledger goes on, so many nodes at most join the waste, and the births of the target's graph are those that it had, or that of the next
+-- commit
+pub record KeptEnds (old new : Books) (t : Target) (births : List ℕ) (most : ℕ) (us : List Tree) (rs : List (List Tree)) : Type 0 where
   pub ledger : HasLedger new us rs
   pub waste : Joins (EndsAt (old.versions.commit + 1)) most (waste_at old.pool) (waste_at new.pool)
+  pub renews : Renews old.versions.commit (graph_births old t) births (waste_at old.pool) (waste_at new.pool)
 
 -- the books once a draft is kept
 abbrev pub with_draft : Books → Numbered → Nodes → Pins → Recorded → ℕ → Books
@@ -160,7 +168,21 @@ module _ (b : Books) (d : Numbered) (q r : Nodes) (w : Pins) (c : Recorded) (wri
       written = latest.written;
     }
 
-    pub kept_ends : (us : List Tree) (rs : List (List Tree)) → HasLedger b us rs → KeptEnds b (with_draft b d r w c write) most us rs
+    renewed : (us : List Tree) (rs : List (List Tree)) → HasLedger b us rs → Renews b.versions.commit (graph_births b t) (tree_births (version_tree r v)) (waste_at b.pool) (waste_at r)
+    renewed us rs l =
+        let p = b.pool in
+        let next = b.versions.commit + 1 in
+        let old = tree_at p (version_or (graphs_of b) t).root in
+        let new = tree_at q v.root in
+        let others = other_trees p (graphs_of b) t in
+        let h = ends us rs l in
+        let made_next : BornAt next p r = born_then next p q r (subst (λ n. BornAt n p q) born made.step.born) (born_nodes next q r nodes) in
+        let now : Renews b.versions.commit (tree_births old) (tree_births new) (waste_at p) (waste_at r) =
+        copy_births p r b.versions w (aside_count q) old new others us rs rs (dead_at p) (dead_at r) (apart_ledger p b.versions (graphs_of b) t us rs (dead_at p) l) h.ledger made_next h.waste in
+        subst (λ x. Renews b.versions.commit (tree_births x) (tree_births (version_tree r v)) (waste_at p) (waste_at r)) (tree_of_target p (graphs_of b) t)
+        (subst (λ x. Renews b.versions.commit (tree_births old) (tree_births x) (waste_at p) (waste_at r)) (sym same_draft) now)
+
+    pub kept_ends : (us : List Tree) (rs : List (List Tree)) → HasLedger b us rs → KeptEnds b (with_draft b d r w c write) t (tree_births (version_tree r v)) most us rs
     kept_ends us rs l =
         let h = ends us rs l in
         let trees : AreSameTrees (version_tree q v ∷ other_trees b.pool (graphs_of b) t) (graph_trees r (with_version (graphs_of b) t v)) = subst (λ u. AreSameTrees (u ∷ other_trees b.pool (graphs_of b) t) (graph_trees r (with_version (graphs_of b) t v))) same_draft sets.trees in
@@ -168,7 +190,12 @@ module _ (b : Books) (d : Numbered) (q r : Nodes) (w : Pins) (c : Recorded) (wri
           ledger = subst (λ g. IsLedger r w (graph_trees r g) us rs (dead_at r)) (sym written)
               (reorder_ledger r w (version_tree q v ∷ other_trees b.pool (graphs_of b) t) (graph_trees r (with_version (graphs_of b) t v)) us us rs (dead_at r) (dead_at r) trees (same_trees us) (same_dead (dead_at r)) h.ledger);
           waste = fewer (b.versions.commit + 1) (aside_count q) most (waste_at b.pool) (waste_at r) made.few h.waste;
+          renews = renewed us rs l;
         }
+
+    -- the other graphs have the births that they had
+    pub kept_births : SetsBirths b (with_draft b d r w c write) t (tree_births (version_tree r v))
+    kept_births = set_bears b (with_draft b d r w c write) t v written same_others
 
 -- keys in a version
 pub united_made : (birth : ℕ) (d : Numbered) (p q : Nodes) (old : GraphVersion) (ks : List Key) (root : Option ℕ) (added : ℕ) → IsDistinct d.terms → CanDraft birth d.terms p old → IsParted p → IsRun d.terms ks

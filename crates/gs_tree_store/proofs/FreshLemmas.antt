@@ -9,6 +9,7 @@ use Rattle.std.proofs.lemmas.Option.{none-some}
 use Rattle.gs_model.specs.Bases.{is_base}
 use Rattle.gs_model.specs.Limits.{last_number, last_node}
 use Rattle.gs_term.specs.Names.{name_cmp}
+use Rattle.gs_event.specs.Births.{no_births}
 use Rattle.gs_event.specs.Datasets.{empty_dataset}
 use Rattle.gs_event.specs.Histories.{Start, view_of, pinned_of}
 use Rattle.gs_event.specs.Phases as phase
@@ -22,16 +23,18 @@ use Rattle.gs_records.specs.Graphs.{current}
 use Rattle.gs_records.specs.Births.{births_of}
 use Rattle.gs_records.specs.Waste.{waste_in, is_opened, open_count}
 use Rattle.gs_versions.specs.Pins.{Pins, unpinned}
-use Rattle.gs_ledger.specs.Entries.{lives}
+use Rattle.gs_ledger.specs.Entries.{tree_births, lives}
 use Rattle.gs_ledger.specs.Marks.{dead_at}
 use Rattle.gs_ledger.specs.Ledger.{IsLedger}
 use Rattle.gs_commit.proofs.LawLemmas.{empty_ledger, empty_dead}
-use Rattle.gs_datasets.specs.Standing.{dataset_at, all_versions, version_tree, graph_trees, IsVersion}
+use Rattle.gs_datasets.specs.Standing.{with_values, dataset_at, all_versions, version_tree, graph_trees, IsVersion}
+use Rattle.gs_datasets.proofs.Values.{with_values-empty}
 use Rattle.gs_datasets.proofs.Sizes.{none_at_all}
 use Rattle.gs_tree_store.specs.declared.books.Books.{Books}
 use Rattle.gs_tree_store.specs.declared.books.Seat.TheVariants.{Idle}
 use Rattle.gs_tree_store.specs.declared.stores.TreeStore.TheInside.{Inside}
 use Rattle.gs_tree_store.specs.Books.{graphs_of, dataset_of, seat_view_by, upload_tree, read_trees, is_reading, IsSeat, HasItsVersion}
+use Rattle.gs_tree_store.specs.Births.{upload_births}
 use Rattle.gs_tree_store.specs.Opened.{own_record, own_count, own_record_at, HaveRecords}
 use Rattle.gs_tree_store.specs.Kept.{shown_of, IsKept}
 
@@ -94,16 +97,22 @@ module _ (a : Inside) (seats commit : ℕ) (fresh : IsFresh a seats commit) wher
   no_graphs : graphs_of a.books ≡ no_versions
   no_graphs = ap current fresh.records
 
+  no_graph_trees : All (λ t. t ≡ leaf) (graph_trees a.books.pool (graphs_of a.books))
+  no_graph_trees = subst (λ (g : GraphVersions). All (λ t. t ≡ leaf) (graph_trees a.books.pool g)) (sym no_graphs) (no_trees a.books.pool)
+
+  no_upload_trees : All (λ t. t ≡ leaf) (map (upload_tree a.books.pool) a.seats.items)
+  no_upload_trees =
+      let tree = upload_tree a.books.pool in
+      subst (λ xs. All (λ t. t ≡ leaf) (map tree xs)) (sym fresh.idle) (All-map (λ t. t ≡ leaf) tree (replicate seats Idle) (All-replicate (λ s. tree s ≡ leaf) seats Idle refl))
+
   fresh_ledger : IsLedger a.books.pool a.books.versions (graph_trees a.books.pool (graphs_of a.books)) (map (upload_tree a.books.pool) a.seats.items) (map (read_trees a.books.pool a.books.records) a.seats.items) (dead_at a.books.pool)
   fresh_ledger =
       let p = a.books.pool in
       let gs = graph_trees p (graphs_of a.books) in
       let us = map (upload_tree p) a.seats.items in
       let rs = map (read_trees p a.books.records) a.seats.items in
-      let current : All (λ t. t ≡ leaf) gs = subst (λ (g : GraphVersions). All (λ t. t ≡ leaf) (graph_trees p g)) (sym no_graphs) (no_trees p) in
-      let staged : All (λ t. t ≡ leaf) us = subst (λ xs. All (λ t. t ≡ leaf) (map (upload_tree p) xs)) (sym fresh.idle) (All-map (λ t. t ≡ leaf) (upload_tree p) (replicate seats Idle) (All-replicate (λ s. upload_tree p s ≡ leaf) seats Idle refl)) in
       let pins : All (λ pin. pin ≡ None) a.books.versions.seats = subst (λ (v : Pins). All (λ pin. pin ≡ None) v.seats) (sym fresh.versions) (All-replicate (λ (pin : Option ℕ). pin ≡ None) seats None refl) in
-      subst (λ ds. IsLedger p a.books.versions gs us rs ds) (sym (empty_dead p fresh.nodes)) (empty_ledger p a.books.versions gs us rs fresh.nodes fresh.marks current staged pins)
+      subst (λ ds. IsLedger p a.books.versions gs us rs ds) (sym (empty_dead p fresh.nodes)) (empty_ledger p a.books.versions gs us rs fresh.nodes fresh.marks no_graph_trees no_upload_trees pins)
 
   pub fresh_kept : commit ≤ last_number → is_base (string_bytes a.books.base) ≡ true → IsKept a
   fresh_kept last base =
@@ -129,6 +138,19 @@ module _ (a : Inside) (seats commit : ℕ) (fresh : IsFresh a seats commit) wher
   -- It has no waste,
   pub fresh_waste : (shown_of a).waste ≡ []
   fresh_waste = λ i. lives (empty_dead a.books.pool fresh.nodes i) ++ waste_in (fresh.records i)
+
+  -- no births,
+  pub fresh_births : (shown_of a).births ≡ no_births seats
+  fresh_births =
+      let p = a.books.pool in
+      let f : GraphVersion → List ℕ = λ v. tree_births (version_tree p v) in
+      let named : with_values f (graphs_of a.books).named ≡ fin.empty = ap (λ (g : GraphVersions). with_values f g.named) no_graphs ∙ with_values-empty f in
+      let staged : map (upload_births a.books) a.seats.items ≡ replicate {A = List ℕ} seats [] = ap (map (upload_births a.books)) fresh.idle ∙ none_staged seats in
+      λ i. record { unnamed = f (no_graphs i).unnamed; named = named i; staged = staged i }
+    where
+      none_staged : (n : ℕ) → map (upload_births a.books) (replicate n Idle) ≡ replicate {A = List ℕ} n []
+      none_staged zero = refl
+      none_staged (suc n) = ap (λ xs. [] ∷ xs) (none_staged n)
 
   -- shows what the empty history says,
   pub fresh_view : (shown_of a).view ≡ view_of (record { seats = seats; setting = record { base = string_bytes a.books.base; limits = a.books.limits }; request = a.books.request; commit = commit }) []

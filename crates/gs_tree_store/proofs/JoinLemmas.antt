@@ -18,8 +18,11 @@ use Rattle.gs_event.specs.Operations.{is_success, united}
 use Rattle.gs_event.specs.Phases.{Writing, Patching}
 use Rattle.gs_event.specs.Views.{Totals, SeatView}
 use Rattle.gs_event.specs.Waste.{Lifetime, is_needed, unneeded}
-use Rattle.gs_event.specs.Wasting.{Joins, JoinsBoth, IsUnreached, EndsAt, EndsRecord, most_for_new, most_patched, UploadNodes, UpdateNodes, DeleteNodes, WastesNodes, UploadRecords, UpdateRecords, DeleteRecords, WastesRecords, WastesBoth}
+use Rattle.gs_event.specs.Wasting.{Joins, JoinsBoth, IsUnreached, EndsAt, EndsRecord, most_for_new, most_patched, UploadNodes, UpdateNodes, DeleteNodes, WastesNodes, UploadRecords, UpdateRecords, DeleteRecords, WastesRecords, bearing_of, WastesBoth}
+use Rattle.gs_event.specs.Births.{NodeBirths, staged_births}
+use Rattle.gs_event.specs.Born.{AreSameBirths, Bears}
 use Rattle.gs_event.specs.Steps.{Frees}
+use Rattle.gs_tree_store.proofs.BornLemmas.{bears_beside}
 use Rattle.gs_tree_store.specs.Opened.{TakesRecords}
 use Rattle.gs_tree_store.specs.Uses.{SameUnless, PostUses, SeatUses}
 use Rattle.gs_tree_store.specs.Actions.{TakesNodes}
@@ -84,10 +87,14 @@ module _ (f : List Lifetime → List Lifetime) (count : (Lifetime → ℕ) → �
   records_in v p action answer a b x = ap f x
 
 -- what an action makes of both wastes: of the nodes first, beside the records that were, and then of these, beside the new nodes
-pub both_waste : (v : Totals) (p : SeatView) (action : Action) (answer : Answer) (a b c d : List Lifetime) → WastesNodes v p action answer a b → WastesRecords v p action answer c d → WastesBoth v p action answer (a ++ c) (b ++ d)
-both_waste v p action answer a b c d x y = record {
+pub both_waste : (v : Totals) (seat : ℕ) (p : SeatView) (action : Action) (answer : Answer) (births births_then : NodeBirths) (a b c d : List Lifetime) → WastesNodes v p action answer a b → Bears v p action answer (bearing_of seat births births_then a b)
+    → ((k : ℕ) → k ≢ seat → AreSameBirths (staged_births births k) (staged_births births_then k)) → WastesRecords v p action answer c d
+    → WastesBoth v seat p action answer births births_then (a ++ c) (b ++ d)
+both_waste v seat p action answer births births_then a b c d x born others y = record {
   between = b ++ c;
   nodes = nodes_in (λ z. z ++ c) (λ h. sum_by h c) (λ h z. sum_by-append h z c) v p action answer a b x;
+  born = bears_beside (bearing_of seat births births_then a b) c v p action answer born;
+  others = others;
   records = records_in (λ z. b ++ z) (λ h. sum_by h b) (λ h z. omega (arith, sum_by-append h b z)) v p action answer c d y;
 }
 

@@ -140,7 +140,8 @@ module _ (a b : Inside) (s : ℕ) (was now : Seat) (action : Action) (answer : A
       λ k d lt. shown_stays a.books.dict.terms b.books.dict.terms outlives a.books.pool b.books.pool a.books.records b.books.records al al_new (get_or (set a.seats.items s Idle) k d) (others_known k d lt) (beside_at k d lt) in
       ap (map (seat_view_by b.books)) seats ∙ map_beside (seat_view_by a.books) (seat_view_by b.books) a.seats.items s now same
 
-  uploads_after : set (uploads_of a) s (upload_tree b.books.pool now) ≡ uploads_of b
+  -- the uploads after it: one may be another
+  pub uploads_after : set (uploads_of a) s (upload_tree b.books.pool now) ≡ uploads_of b
   uploads_after =
       let p = a.books.pool in
       let q = b.books.pool in

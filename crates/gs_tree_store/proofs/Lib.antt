@@ -7,6 +7,8 @@ pub mod ConditionLemmas
 pub mod RecordLemmas
 pub mod OpenedLemmas
 pub mod AlikeLemmas
+pub mod BornLemmas
+pub mod BirthLemmas
 pub mod SeatLemmas
 pub mod ReadLemmas
 pub mod AllLemmas

@@ -24,6 +24,7 @@ use Rattle.gs_event.specs.Conditions.{asked_since, is_above, is_late, last_write
 use Rattle.gs_event.specs.Views.{Totals, state_of}
 use Rattle.gs_event.specs.Waste.{Lifetime}
 use Rattle.gs_event.specs.Verdicts.{verdict_of, holdings_of, place_in, DecidesChange}
+use Rattle.gs_event.specs.Born.{Renews, GraphBears, PatchBears}
 use Rattle.gs_event.specs.Wasting.{Joins, IsUnreached, EndsAt, most_patched, UpdateNodes}
 use Rattle.gs_event.proofs.VerdictLemmas.{store_must}
 use Rattle.gs_dict.specs.Numbering.{Numbered}
@@ -38,25 +39,28 @@ use Rattle.gs_catalogue.specs.Catalogues.{empty_version, version_at, with_versio
 use Rattle.gs_records.specs.Records.{Recorded}
 use Rattle.gs_records.specs.Graphs.{current}
 use Rattle.gs_versions.specs.Pins.{Pins, at_commit}
+use Rattle.gs_ledger.specs.Entries.{tree_births}
 use Rattle.gs_ledger.specs.Marks.{waste_at}
 use Rattle.gs_commit.specs.Commits.{KeepsDraftAll}
-use Rattle.gs_datasets.specs.Standing.{version_graph}
+use Rattle.gs_datasets.specs.Standing.{version_graph, version_tree}
 use Rattle.gs_datasets.proofs.Sizes.{graph_at-is}
 use Rattle.gs_tree_store.specs.declared.books.Books.{Books}
 use Rattle.gs_tree_store.specs.declared.books.Seat.{Seat}
 use Rattle.gs_tree_store.specs.declared.books.Seat.TheVariants.{Idle, Patching}
 use Rattle.gs_tree_store.specs.LastWrites.{last_writes_of, late_write_of}
 use Rattle.gs_tree_store.specs.Books.{graphs_of, books_setting, dataset_of, totals_of, IsReady}
+use Rattle.gs_tree_store.specs.Births.{graph_births}
 use Rattle.gs_tree_store.specs.Drafts.{Drafts}
 use Rattle.gs_tree_store.specs.Uses.{SameUnless}
-use Rattle.gs_tree_store.specs.Actions.{Acts}
+use Rattle.gs_tree_store.specs.Actions.{bearing_by, Acts}
 use Rattle.gs_tree_store.proofs.AlikeLemmas.{SameNow, with_records, acts_alike}
 use Rattle.gs_tree_store.proofs.ConditionLemmas.{ComesTo, fits_so, totals_so, comes_late, comes_done, comes_undone, wants_in_time, no_number, change_late, change_in_time}
 use Rattle.gs_tree_store.proofs.CommitLemmas.{version_or}
 use Rattle.gs_tree_store.proofs.VerdictLemmas.{size_of_version, is_stored, is_not_stored, would_be_stored}
+use Rattle.gs_tree_store.proofs.BornLemmas.{equal_births}
 use Rattle.gs_tree_store.proofs.SeatLemmas.{ledger_stays}
 use Rattle.gs_tree_store.proofs.UndoneLemmas.{with_nodes, undone_ready, undone_acts, undone_totals, nothing_done}
-use Rattle.gs_tree_store.proofs.DraftLemmas.{KeptEnds, IsNext, with_draft, kept_dataset, kept_sound, kept_ends}
+use Rattle.gs_tree_store.proofs.DraftLemmas.{KeptEnds, IsNext, with_draft, kept_dataset, kept_sound, kept_ends, kept_births}
 
 -- the graph of the target's version
 abbrev pub target_graph : Books → Target → Graph
@@ -144,6 +148,7 @@ without_effect b s t n o since ops status number comes fails ready =
         waste = subst (λ x. UpdateNodes (totals_of b) t ops.items x (waste_at b.pool) (waste_at b.pool)) (sym fails) refl;
       };
       takes = subst (λ x. SameUnless x (in_use b.pool) (in_use b.pool)) (sym fails) refl;
+      born = subst (λ x. PatchBears b.versions.commit t x (bearing_by b b (Patching t n o since) Idle)) (sym fails) (λ u f. refl, λ f. refl);
     }
 
 -- Only its record is given up.
@@ -191,7 +196,7 @@ module _ (b : Books) (d : Numbered) (q : Nodes) (s : ℕ) (t : Target) (n o : �
 
   -- want of memory
   pub patch_unmade : Acts b (with_nodes b d q) s (Patching t n o since) (Patching t n o since) (CommitPatch ops) (Refused NoMemory)
-  patch_unmade = acts_so (Patching t n o since) (Refused NoMemory) (nothing_done (with_nodes b d q) s (Patching t n o since) (CommitPatch ops) (Refused NoMemory) (wants_in_time (totals_of (with_nodes b d q)) (asked_since since (Patches t ops.items)) in_time_now there_now) refl refl refl refl refl ready_now)
+  patch_unmade = acts_so (Patching t n o since) (Refused NoMemory) (nothing_done (with_nodes b d q) s (Patching t n o since) (CommitPatch ops) (Refused NoMemory) (wants_in_time (totals_of (with_nodes b d q)) (asked_since since (Patches t ops.items)) in_time_now there_now) refl refl refl refl refl (λ x none. none) ready_now)
 
   -- no commit number is left: the patch stays open
   pub patch_last : DecidesPatch b t ops.items LastNumber → Acts b (with_nodes b d q) s (Patching t n o since) (Patching t n o since) (CommitPatch ops) (Refused NoNumber)
@@ -200,7 +205,7 @@ module _ (b : Books) (d : Numbered) (q : Nodes) (s : ℕ) (t : Target) (n o : �
       let m = dataset_of (with_nodes b d q) in
       let change = decided_now LastNumber decided in
       let would = would_be_stored w m b.versions.commit (Patches t ops.items) t (patched (graph_of_target m t) ops.items) (status_stored w m t ops.items there_now) (dataset_stored w m t ops.items there_now) change.1 in
-      acts_so (Patching t n o since) (Refused NoNumber) (nothing_done (with_nodes b d q) s (Patching t n o since) (CommitPatch ops) (Refused NoNumber) (no_number (totals_of (with_nodes b d q)) (asked_since since (Patches t ops.items)) in_time_now would change.1.1) refl refl refl refl refl ready_now)
+      acts_so (Patching t n o since) (Refused NoNumber) (nothing_done (with_nodes b d q) s (Patching t n o since) (CommitPatch ops) (Refused NoNumber) (no_number (totals_of (with_nodes b d q)) (asked_since since (Patches t ops.items)) in_time_now would change.1.1) refl refl refl refl refl (λ x none. none) ready_now)
 
   -- beyond the limits: nothing changes, and the seat is idle
   pub patch_full : (x : Recorded) → SameNow b.records x → DecidesPatch b t ops.items Full → Acts b (with_records (with_nodes b d q) x) s (Patching t n o since) Idle (CommitPatch ops) (Status 507 None b.versions.commit)
@@ -233,6 +238,12 @@ patch_kept b d q r w c write s t n o since ops v birth status triples names born
     let stored = is_stored (books_setting b) m b.versions.commit (Patches t ops.items) t (patched (graph_of_target m t) ops.items) (status_stored (books_setting b) m t ops.items there) (dataset_stored (books_setting b) m t ops.items there) status triples names decided.1 in
     let last : w.commit ≡ b.versions.commit + 1 = ap (λ (x : Pins). x.commit) commit in
     let dataset = kept_dataset b d q r w c write t v g birth most born grows made keeps commit nodes none written latest number ready.sound (leaf ∷ some.uploads) some.reads some.ledger.ledger ∙ ap (with_graph m t) (updated_is b t there ops.items) ∙ sym stored.dataset in
+    let e₀ : KeptEnds b new t (tree_births (version_tree r v)) most (leaf ∷ some.uploads) some.reads = kept_ends b d q r w c write t v g birth most born grows made keeps commit nodes none written latest number ready.sound (leaf ∷ some.uploads) some.reads some.ledger.ledger (leaf ∷ some.uploads) some.reads some.ledger.ledger in
+    let set = kept_births b d q r w c write t v g birth most born grows made keeps commit nodes none written latest number ready.sound (leaf ∷ some.uploads) some.reads some.ledger.ledger in
+    let graph_born : GraphBears b.versions.commit t (bearing_by b new (Patching t n o since) Idle) = (
+      (λ x other. equal_births (graph_births b x) (graph_births new x) (set.others x other)),
+      subst (λ x. Renews b.versions.commit (graph_births b t) x (waste_at b.pool) (waste_at r)) (sym set.own) e₀.renews,
+    ) in
     let comes = comes_done (totals_of b) q0 (change_in_time b t since there early) status None stored.status_is stored.well refl in
     let state : state_of (totals_of new) ≡ record { dataset = after (books_setting b) m (Patches t ops.items); commit = b.versions.commit + 1; last_writes = with_write (last_writes_of b) (b.versions.commit + 1) t } =
     λ i. record { dataset = dataset i; commit = last i; last_writes = (writes ∙ ap (λ k. with_write (last_writes_of b) k t) born) i } in
@@ -246,7 +257,7 @@ patch_kept b d q r w c write s t n o since ops v birth status triples names born
       version = tt;
       grows = grows;
       ledgers = λ us rs l.
-          let e : KeptEnds b new most (leaf ∷ us) rs = kept_ends b d q r w c write t v g birth most born grows made keeps commit nodes none written latest number ready.sound (leaf ∷ some.uploads) some.reads some.ledger.ledger (leaf ∷ us) rs l.ledger in
+          let e : KeptEnds b new t (tree_births (version_tree r v)) most (leaf ∷ us) rs = kept_ends b d q r w c write t v g birth most born grows made keeps commit nodes none written latest number ready.sound (leaf ∷ some.uploads) some.reads some.ledger.ledger (leaf ∷ us) rs l.ledger in
           let joins = replaced_joins b.versions.commit most (waste_at b.pool) (waste_at r) e.waste in
           record {
             ledger = ledger_stays new s Idle us rs l.read l.there e.ledger;
@@ -254,4 +265,5 @@ patch_kept b d q r w c write s t n o since ops v birth status triples names born
                 (subst (λ k. Joins (λ (l : Lifetime). IsUnreached l ⊎ EndsAt (b.versions.commit + 1) l) k (waste_at b.pool) (waste_at r)) (most_is b t there ops.items) joins);
           };
       takes = subst (λ x. SameUnless x (in_use b.pool) (in_use r)) (sym stored.well) tt;
+      born = subst (λ x. PatchBears b.versions.commit t x (bearing_by b new (Patching t n o since) Idle)) (sym stored.well) (graph_born, λ f. refl);
     }

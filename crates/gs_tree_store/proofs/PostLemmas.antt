@@ -21,13 +21,14 @@ use Rattle.gs_event.specs.Phases as phase
 use Rattle.gs_event.specs.Views.{state_of, FitsSeat}
 use Rattle.gs_event.specs.Verdicts.{verdict_of, holdings_of, place_in, DecidesStore}
 use Rattle.gs_event.proofs.VerdictLemmas.{store_may}
+use Rattle.gs_event.specs.Born.{Renews, GraphBears, UploadBears}
 use Rattle.gs_event.specs.Wasting.{IsUnreached, EndsAt, Joins, UploadNodes}
 use Rattle.gs_pool.specs.declared.nodes.Key.{Key}
 use Rattle.gs_pool.specs.Pool.{Nodes, in_use, aside_count, room}
 use Rattle.gs_tree.specs.Tree.{Tree, leaf, keys, occurrences, BirthAtMost, tree_at}
 use Rattle.gs_tree.specs.Keys.{AllKeys, IsRising}
 use Rattle.gs_tree.specs.Reading.{keys_at}
-use Rattle.gs_tree.specs.Steps.{Step, SameTotal}
+use Rattle.gs_tree.specs.Steps.{Step, SameTotal, BornAt}
 use Rattle.gs_tree.proofs.TreeLemmas.{Step-then}
 use Rattle.gs_keys.specs.Texts.{triple_at, key_cmp, IsGiven}
 use Rattle.gs_keys.specs.Roots.{graph_of_root}
@@ -39,7 +40,9 @@ use Rattle.gs_catalogue.specs.Catalogues.{with_version}
 use Rattle.gs_records.specs.Records.{Recorded}
 use Rattle.gs_records.specs.Graphs.{current}
 use Rattle.gs_versions.specs.Pins.{Pins, at_commit}
+use Rattle.gs_ledger.specs.Entries.{tree_births}
 use Rattle.gs_ledger.specs.Marks.{waste_at}
+use Rattle.gs_datasets.specs.Standing.{version_tree}
 use Rattle.gs_ledger.specs.Ledger.{IsTreeOf}
 use Rattle.gs_commit.specs.Commits.{KeepsDraftAll}
 use Rattle.gs_tree_store.specs.declared.books.Books.{Books}
@@ -47,11 +50,13 @@ use Rattle.gs_tree_store.specs.declared.books.Seat.{Seat}
 use Rattle.gs_tree_store.specs.declared.books.Seat.TheVariants.{Idle, Writing}
 use Rattle.gs_tree_store.specs.LastWrites.{last_writes_of, late_write_of}
 use Rattle.gs_tree_store.specs.Books.{graphs_of, books_setting, dataset_of, totals_of, seat_view_by, HasLedger, IsReady}
+use Rattle.gs_tree_store.specs.Births.{graph_births}
 use Rattle.gs_tree_store.specs.Drafts.{CanDraft, IsRun, Drafts}
 use Rattle.gs_tree_store.specs.Uploads.{TakesKeys, MakesAgain}
 use Rattle.gs_tree_store.specs.Verdicts.{HasCounts}
-use Rattle.gs_tree_store.specs.Actions.{Acts, IsReadyAny}
+use Rattle.gs_tree_store.specs.Actions.{bearing_by, Acts, IsReadyAny}
 use Rattle.gs_tree_store.proofs.AlikeLemmas.{SameNow, with_records, acts_alike}
+use Rattle.gs_tree_store.proofs.BornLemmas.{equal_births, trees_bear}
 use Rattle.gs_tree_store.proofs.ConditionLemmas.{fits_so, totals_so, comes_done, comes_undone, post_done, wants_in_time, no_number, upload_in_time}
 use Rattle.gs_tree_store.proofs.CommitLemmas.{version_or}
 use Rattle.gs_tree_store.proofs.VerdictLemmas.{size_of_version, is_stored, is_not_stored, would_be_stored}
@@ -59,8 +64,8 @@ use Rattle.gs_tree_store.proofs.WriteLemmas.{upload_graph, taken_over}
 use Rattle.gs_tree_store.proofs.BeginLemmas.{can_draft}
 use Rattle.gs_tree_store.proofs.SeatLemmas.{SameGraphs, same_totals, ledger_stays}
 use Rattle.gs_tree_store.proofs.UndoneLemmas.{with_nodes}
-use Rattle.gs_tree_store.proofs.UploadLemmas.{no_tree, restored_step, moved_graphs, moved_ledger, moved_waste, moved_use}
-use Rattle.gs_tree_store.proofs.DraftLemmas.{KeptEnds, IsNext, with_draft, kept_dataset, kept_sound, kept_ends, united_target}
+use Rattle.gs_tree_store.proofs.UploadLemmas.{no_tree, restored_step, moved_graphs, moved_ledger, moved_waste, moved_births, moved_use}
+use Rattle.gs_tree_store.proofs.DraftLemmas.{KeptEnds, IsNext, with_draft, kept_dataset, kept_sound, kept_ends, kept_births, united_target}
 
 -- the target's graph with the upload's triples
 abbrev pub posted : Books → Target → GraphVersion → Graph
@@ -158,6 +163,7 @@ module _ (b : Books) (t : Target) (n : ℕ) (u : GraphVersion) (o : ℕ) (since 
                 waste = subst (Joins IsUnreached (size_of graph) (waste_at b.pool)) (sym waste) (record { more = []; few = omega arith; same = λ f. omega arith; ended = λ k d lt. absurd (omega arith) });
               };
           takes = omega (arith, mid_use, restores.in_use, ap length apart.keys_are, ready.known.counted, size_of_version b.dict.terms b.pool u ready.known);
+          born = ((λ x. equal_births (graph_births b x) (graph_births (with_nodes b b.dict r) x) (trees_bear b (with_nodes b b.dict r) refl graphs.trees x)), refl);
         })
 
     -- refused: the upload is made again, from the same keys
@@ -196,6 +202,10 @@ module _ (b : Books) (t : Target) (n : ℕ) (u : GraphVersion) (o : ℕ) (since 
             waste = moved_waste b b.dict r' birth tree new grows ready.sound step stands none us₀ rs₀ l₀;
           };
           takes = omega (arith, used, ap (λ (xs : List Key). length xs) same);
+          born = (
+            (λ x. equal_births (graph_births b x) (graph_births (with_nodes b b.dict r') x) (trees_bear b (with_nodes b b.dict r') refl graphs.trees x)),
+            moved_births b b.dict r' birth tree new grows ready.sound step stands none us₀ rs₀ l₀ (subst (λ k. BornAt k b.pool r') born step.born),
+          );
         }
 
     post_refused : (r' : Nodes) (birth s : ℕ) (v : GraphVersion) (now : Seat) (a : Answer) (why : Refusal) → birth ≡ b.versions.commit + 1 → MakesAgain birth r r' ks v → now ≡ Writing (Post t) n v o since → a ≡ Refused why
@@ -278,6 +288,15 @@ module _ (b : Books) (t : Target) (n : ℕ) (u : GraphVersion) (o : ℕ) (since 
           let comes = comes_done (totals_of b) asked in_time status None stored.status_is stored.well refl in
           let state : state_of (totals_of new) ≡ record { dataset = after (books_setting b) (dataset_of b) (Posts t graph); commit = b.versions.commit + 1; last_writes = with_write (last_writes_of b) (b.versions.commit + 1) t } =
           λ i. record { dataset = (dataset ∙ written_is ∙ sym stored.dataset) i; commit = last i; last_writes = (writes ∙ ap (λ k. with_write (last_writes_of b) k t) born) i } in
+          let e₀ : KeptEnds mid new t (tree_births (version_tree r v)) most (leaf ∷ us₀) rs₀ = kept_ends mid b.dict q r w c write t v both birth most born grows draft_made keeps commit nodes none written latest number mid_graphs.sound (leaf ∷ us₀) rs₀ here (leaf ∷ us₀) rs₀ here in
+          let set = kept_births mid b.dict q r w c write t v both birth most born grows draft_made keeps commit nodes none written latest number mid_graphs.sound (leaf ∷ us₀) rs₀ here in
+          let were : (x : Target) → graph_births mid x ≡ graph_births b x = trees_bear b mid refl mid_graphs.trees in
+          let renews : Renews b.versions.commit (graph_births b t) (graph_births new t) (waste_at b.pool) (waste_at r) =
+          subst (λ x. Renews b.versions.commit (graph_births b t) x (waste_at b.pool) (waste_at r)) (sym set.own)
+          (subst (λ x. Renews b.versions.commit (graph_births b t) (tree_births (version_tree r v)) x (waste_at r)) mid_waste
+          (subst (λ x. Renews b.versions.commit x (tree_births (version_tree r v)) (waste_at p1) (waste_at r)) (were t) e₀.renews)) in
+          let graph_born : GraphBears b.versions.commit t (bearing_by b new (Writing (Post t) n u o since) Idle) =
+          ((λ x other. equal_births (graph_births b x) (graph_births new x) (set.others x other ∙ were x)), renews) in
           let acts : Acts b new s (Writing (Post t) n u o since) Idle Commit (Status status None (b.versions.commit + 1)) = record {
             fits = fits_so (totals_of b) asked status None (b.versions.commit + 1) _ comes (λ well. number);
             totals = totals_so b new asked _ comes.state_is refl refl state;
@@ -288,12 +307,13 @@ module _ (b : Books) (t : Target) (n : ℕ) (u : GraphVersion) (o : ℕ) (since 
             version = tt;
             grows = grows;
             ledgers = λ us rs l.
-                let e : KeptEnds mid new most (leaf ∷ us) rs = kept_ends mid b.dict q r w c write t v both birth most born grows draft_made keeps commit nodes none written latest number mid_graphs.sound (leaf ∷ us₀) rs₀ here (leaf ∷ us) rs (mid_ledger us rs l.ledger) in
+                let e : KeptEnds mid new t (tree_births (version_tree r v)) most (leaf ∷ us) rs = kept_ends mid b.dict q r w c write t v both birth most born grows draft_made keeps commit nodes none written latest number mid_graphs.sound (leaf ∷ us₀) rs₀ here (leaf ∷ us) rs (mid_ledger us rs l.ledger) in
                 let copied = taken_over b.versions.commit (size_of graph) most (waste_at b.pool) (waste_at r) (omega arith) (subst (λ ls. Joins (EndsAt (b.versions.commit + 1)) most ls (waste_at r)) mid_waste e.waste) in
                 record {
                   ledger = ledger_stays new s Idle us rs l.read l.there e.ledger;
                   waste = subst (λ x. UploadNodes (totals_of b) (Post t) graph x (waste_at b.pool) (waste_at r)) (sym stored.well) copied;
                 };
             takes = post_done status (size_of graph) (in_use b.pool) (in_use r) stored.well;
+            born = subst (λ x. UploadBears (totals_of b) (Post t) n x (bearing_by b new (Writing (Post t) n u o since) Idle)) (sym stored.well) (graph_born, refl);
           } in
           subst (λ x. Acts b (with_draft b b.dict r w c write) s (Writing (Post t) n u o since) x Commit (Status status None (b.versions.commit + 1))) (sym idle) acts

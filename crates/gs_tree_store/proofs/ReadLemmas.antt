@@ -101,6 +101,7 @@ missing b s t none ready =
       grows = still_grows b.dict b.dict refl;
       ledgers = λ us rs l. record { ledger = ledger_stays b s Idle us rs l.read l.there l.ledger; waste = refl };
       takes = refl;
+      born = (λ u f. refl, λ f. refl);
     }
 
 pub pin_missing : (b : Books) (s : ℕ) (seat : Seat) (t : Target) → seat ≡ Idle → version_at (graphs_of b) t ≡ None → IsReady b s seat → Acts b b s seat seat (Pin (One t)) (Pinned 404 b.versions.commit)
@@ -138,6 +139,7 @@ pinned b s t v is ready =
         waste = refl;
       };
       takes = refl;
+      born = (λ u f. refl, λ f. refl);
     }
 
 pub pin_found : (b : Books) (s : ℕ) (seat : Seat) (t : Target) (v : GraphVersion) (w : Pins) → seat ≡ Idle → version_at (graphs_of b) t ≡ Some v → w ≡ with_pin b.versions s (Some b.versions.commit) → IsReady b s seat
@@ -160,6 +162,7 @@ more_left b s root last count piece some more p ready = record {
   grows = still_grows b.dict b.dict refl;
   ledgers = λ us rs l. record { ledger = ledger_stays b s (Reading root piece.last) us rs l.read l.there l.ledger; waste = refl };
   takes = refl;
+  born = (λ u f. refl, λ f. refl);
 }
 
 pub piece_more : (b : Books) (s : ℕ) (seat : Seat) (root : Option ℕ) (last : Option Key) (count : ℕ) (piece : Piece) → seat ≡ Reading root last → 0 < count → piece.is_end ≡ false → IsPiece b.dict.terms b.pool root last count piece → IsReady b s seat
@@ -170,7 +173,7 @@ piece_more b s seat root last count piece reads some more p =
 -- the last piece
 none_left : (b : Books) (s : ℕ) (root : Option ℕ) (last : Option Key) (count : ℕ) (piece : Piece) → 0 < count → piece.is_end ≡ true → IsPiece b.dict.terms b.pool root last count piece → IsReady b s (Reading root last)
     → Acts b (record b { versions = with_pin b.versions s None }) s (Reading root last) Idle (PieceOf count) (Lines piece.bytes true)
-none_left b s root last count piece some ends p ready = read_over b s (Reading root last) (PieceOf count) (Lines piece.bytes true) (some, p.bytes, sym ends ∙ p.end) refl refl refl refl refl refl ready
+none_left b s root last count piece some ends p ready = read_over b s (Reading root last) (PieceOf count) (Lines piece.bytes true) (some, p.bytes, sym ends ∙ p.end) refl refl refl refl refl refl (λ x none. none) ready
 
 pub piece_last : (b : Books) (s : ℕ) (seat : Seat) (root : Option ℕ) (last : Option Key) (count : ℕ) (piece : Piece) (w : Pins) → seat ≡ Reading root last → 0 < count → piece.is_end ≡ true → IsPiece b.dict.terms b.pool root last count piece
     → w ≡ with_pin b.versions s None → IsReady b s seat → Acts b (record b { versions = w }) s seat Idle (PieceOf count) (Lines piece.bytes true)
@@ -195,11 +198,11 @@ not_allowed b (ReadingAll v last) count none none_of_all = absurd (none_of_all v
 
 -- so it is refused
 refuses : (b : Books) (s : ℕ) (seat : Seat) (count : ℕ) → allows (seat_view_by b seat) (PieceOf count) ≡ false → IsReady b s seat → Acts b b s seat seat (PieceOf count) (Refused WrongPhase)
-refuses b s Idle count bars = nothing_done b s Idle (PieceOf count) (Refused WrongPhase) bars refl refl refl refl refl
-refuses b s (Writing k r v o since) count bars = nothing_done b s (Writing k r v o since) (PieceOf count) (Refused WrongPhase) bars refl refl refl refl refl
-refuses b s (Patching t r o since) count bars = nothing_done b s (Patching t r o since) (PieceOf count) (Refused WrongPhase) bars refl refl refl refl refl
-refuses b s (Reading root last) count bars = nothing_done b s (Reading root last) (PieceOf count) (Refused WrongPhase) bars refl refl refl refl refl
-refuses b s (ReadingAll v last) count bars = nothing_done b s (ReadingAll v last) (PieceOf count) (Refused WrongPhase) bars refl refl refl refl refl
+refuses b s Idle count bars = nothing_done b s Idle (PieceOf count) (Refused WrongPhase) bars refl refl refl refl refl (λ x none. none)
+refuses b s (Writing k r v o since) count bars = nothing_done b s (Writing k r v o since) (PieceOf count) (Refused WrongPhase) bars refl refl refl refl refl (λ x none. none)
+refuses b s (Patching t r o since) count bars = nothing_done b s (Patching t r o since) (PieceOf count) (Refused WrongPhase) bars refl refl refl refl refl (λ x none. none)
+refuses b s (Reading root last) count bars = nothing_done b s (Reading root last) (PieceOf count) (Refused WrongPhase) bars refl refl refl refl refl (λ x none. none)
+refuses b s (ReadingAll v last) count bars = nothing_done b s (ReadingAll v last) (PieceOf count) (Refused WrongPhase) bars refl refl refl refl refl (λ x none. none)
 
 pub none_refused : (b : Books) (s : ℕ) (seat : Seat) (count : ℕ) → count ≡ 0 → IsReady b s seat → Acts b b s seat seat (PieceOf count) (Refused WrongPhase)
 none_refused b s seat count none = refuses b s seat count (none_allowed (seat_view_by b seat) count none)

@@ -4,10 +4,13 @@ use Rattle.std.specs.List.{All}
 use Rattle.std.proofs.lemmas.List.{append-nil, length-map, get_or_default, get_or-map}
 use Rattle.gs_event.specs.declared.events.Event.TheVariants.{Reclaim}
 use Rattle.gs_event.specs.declared.answers.Answer.TheVariants.{Reclaimed}
+use Rattle.gs_event.specs.Births.{births_at, staged_births}
+use Rattle.gs_event.specs.Born.{HasSameBirths}
 use Rattle.gs_event.specs.Waste.{Lifetime, Shown}
 use Rattle.gs_event.specs.Steps.{Frees, Steps}
 use Rattle.gs_pool.specs.Pool.{Nodes, aside_count}
 use Rattle.gs_tree.specs.Tree.{leaf}
+use Rattle.gs_ledger.specs.Entries.{tree_births}
 use Rattle.gs_ledger.specs.Marks.{dead_at, waste_at}
 use Rattle.gs_ledger.specs.Ledger.{IsLedger}
 use Rattle.gs_reclaim.specs.Reclaims.{KeepsLedgers}
@@ -31,6 +34,8 @@ use Rattle.gs_tree_store.specs.Kept.{shown_of, IsKept}
 use Rattle.gs_tree_store.proofs.AlikeLemmas.{SameNow, alike_dataset, alike_writes, alike_sound}
 use Rattle.gs_tree_store.proofs.PlaceLemmas.{same_map, pin_at, some_of}
 use Rattle.gs_tree_store.proofs.ShownLemmas.{outlives_same, reads_same, KeepsSeat, same_upload, same_read, keeps_seat, seat_stays, shown_stays}
+use Rattle.gs_tree_store.proofs.BornLemmas.{equal_births, trees_bear}
+use Rattle.gs_tree_store.proofs.BirthLemmas.{map_or, births_at-is, staged_births-is, few_births}
 use Rattle.gs_tree_store.proofs.KeptLemmas.{uploads_of, reads_of}
 use Rattle.gs_tree_store.proofs.JoinLemmas.{frees_both}
 
@@ -105,17 +110,31 @@ module _ (a : Inside) (q : Nodes) (kept : IsKept a) (ledgers : KeepsLedgers a.bo
     now_same : SameNow a.books.records r
     now_same = record { graphs = reclaims.now; latest = reclaims.latest; limit = reclaims.limit; births = reclaims.births }
 
+    -- and so are their trees, and those of uploads
+    graphs_same : graph_trees q (current r.records) ≡ graph_trees a.books.pool (graphs_of a.books)
+    graphs_same = ap (graph_trees q) now_same.graphs ∙ graphs_kept.trees
+
+    uploads_same : uploads_of (reclaimed a q r) ≡ uploads_of a
+    uploads_same = same_map (upload_tree a.books.pool) (upload_tree q) a.seats.items (λ k d lt. same_upload a.books.pool q a.books.records r (get_or a.seats.items k d) (seats_kept k d lt))
+
+    births_same : HasSameBirths (shown_of a) (shown_of (reclaimed a q r))
+    births_same =
+        let b = reclaimed a q r in
+        record {
+          graphs = λ u. equal_births (births_at (shown_of a).births u) (births_at (shown_of b).births u) (births_at-is b u ∙ trees_bear a.books b.books now_same.graphs graphs_same u ∙ sym (births_at-is a u));
+          staged = λ k. equal_births (staged_births (shown_of a).births k) (staged_births (shown_of b).births k)
+              (staged_births-is b k ∙ ap tree_births (sym (map_or (upload_tree q) a.seats.items k Idle) ∙ ap (λ us. get_or us k leaf) uploads_same ∙ map_or (upload_tree a.books.pool) a.seats.items k Idle) ∙ sym (staged_births-is a k));
+        }
+
     ledger_kept : IsLedger q a.books.versions (graph_trees q (current r.records)) (uploads_of (reclaimed a q r)) (reads_of (reclaimed a q r)) (dead_at q)
     ledger_kept =
         let p = a.books.pool in
         let x = a.books.records in
         let xs = a.seats.items in
         let b = reclaimed a q r in
-        let us : uploads_of b ≡ uploads_of a = same_map (upload_tree p) (upload_tree q) xs (λ k d lt. same_upload p q x r (get_or xs k d) (seats_kept k d lt)) in
         let rs : reads_of b ≡ reads_of a = same_map (read_trees p x) (read_trees q r) xs (λ k d lt. same_read p q x r (get_or xs k d) (seats_kept k d lt)) in
-        let gs : graph_trees q (current r.records) ≡ graph_trees p (graphs_of a.books) = ap (graph_trees q) now_same.graphs ∙ graphs_kept.trees in
-        subst (λ ts. IsLedger q a.books.versions ts (uploads_of b) (reads_of b) (dead_at q)) (sym gs)
-        (subst (λ ts. IsLedger q a.books.versions (graph_trees p (graphs_of a.books)) ts (reads_of b) (dead_at q)) (sym us)
+        subst (λ ts. IsLedger q a.books.versions ts (uploads_of b) (reads_of b) (dead_at q)) (sym graphs_same)
+        (subst (λ ts. IsLedger q a.books.versions (graph_trees p (graphs_of a.books)) ts (reads_of b) (dead_at q)) (sym uploads_same)
         (subst (λ ts. IsLedger q a.books.versions (graph_trees p (graphs_of a.books)) (uploads_of a) ts (dead_at q)) (sym rs) gone_on))
 
     still_open : (k : ℕ) → IsOpened a.books k → IsOpened (reclaimed a q r).books k
@@ -135,19 +154,25 @@ module _ (a : Inside) (q : Nodes) (kept : IsKept a) (ledgers : KeepsLedgers a.bo
       ledger = ledger_kept;
     }
 
-    own_reclaim : Frees a.books.versions.seats n freed left (waste_at a.books.pool) (waste_at q) → Steps (shown_of a) (Reclaim n) (Reclaimed (freed + gone) (left || rest)) (shown_of (reclaimed a q r))
-    own_reclaim frees =
+    own_reclaim : IsKept (reclaimed a q r) → Frees a.books.versions.seats n freed left (waste_at a.books.pool) (waste_at q) → Steps (shown_of a) (Reclaim n) (Reclaimed (freed + gone) (left || rest)) (shown_of (reclaimed a q r))
+    own_reclaim after frees =
         let dataset = alike_dataset (with_pool a q).books r now_same ∙ dataset_kept in
         let writes = alike_writes (with_pool a q).books r now_same in
+        let view : (shown_of (reclaimed a q r)).view ≡ (shown_of a).view =
+        λ i. record { totals = record { setting = (shown_of a).view.totals.setting; dataset = dataset i; request = a.books.request; commit = a.books.versions.commit; last_writes = writes i }; seats = seats_shown i } in
         record {
           fits = tt;
-          view = λ i. record { totals = record { setting = (shown_of a).view.totals.setting; dataset = dataset i; request = a.books.request; commit = a.books.versions.commit; last_writes = writes i }; seats = seats_shown i };
+          view = view;
           pinned = refl;
-          waste = frees_both a.books.versions.seats n freed gone left rest (waste_at a.books.pool) (waste_at q) (waste_in a.books.records.records) (waste_in r.records) frees reclaims.waste;
+          waste = (
+            frees_both a.books.versions.seats n freed gone left rest (waste_at a.books.pool) (waste_at q) (waste_in a.books.records.records) (waste_in r.records) frees reclaims.waste,
+            births_same,
+          );
+          few = λ h. few_births (reclaimed a q r) after;
         }
 
     -- and it is a step.
-    pub steps_reclaimed : (old : Shown) (more : Bool) → shown_of a ≡ old → more ≡ (left || rest) → Frees a.books.versions.seats n freed left (waste_at a.books.pool) (waste_at q) → Steps old (Reclaim n) (Reclaimed (freed + gone) more) (shown_of (reclaimed a q r))
-    steps_reclaimed old more view is frees =
+    pub steps_reclaimed : (old : Shown) (more : Bool) → IsKept (reclaimed a q r) → shown_of a ≡ old → more ≡ (left || rest) → Frees a.books.versions.seats n freed left (waste_at a.books.pool) (waste_at q) → Steps old (Reclaim n) (Reclaimed (freed + gone) more) (shown_of (reclaimed a q r))
+    steps_reclaimed old more after view is frees =
         subst (λ y. Steps old (Reclaim n) (Reclaimed (freed + gone) y) (shown_of (reclaimed a q r))) (sym is)
-        (subst (λ (x : Shown). Steps x (Reclaim n) (Reclaimed (freed + gone) (left || rest)) (shown_of (reclaimed a q r))) view (own_reclaim frees))
+        (subst (λ (x : Shown). Steps x (Reclaim n) (Reclaimed (freed + gone) (left || rest)) (shown_of (reclaimed a q r))) view (own_reclaim after frees))

@@ -15,6 +15,7 @@ use Rattle.gs_dict.specs.Numbering.{Numbered}
 use Rattle.gs_pool.specs.Pool.{Nodes, in_use, aside_count}
 use Rattle.gs_tree.specs.declared.unions.Merged.{Merged}
 use Rattle.gs_tree.specs.Tree.{Descends, BirthAtMost, tree_at}
+use Rattle.gs_tree.specs.Steps.{BornAt}
 use Rattle.gs_keys.specs.Texts.{key_cmp}
 use Rattle.gs_keys.specs.Roots.{graph_of_root}
 use Rattle.gs_changes.proofs.AddLemmas.{few_keys}
@@ -29,9 +30,11 @@ use Rattle.gs_tree_store.specs.declared.books.Books.{Books}
 use Rattle.gs_tree_store.specs.declared.books.Seat.{Seat}
 use Rattle.gs_tree_store.specs.declared.books.Seat.TheVariants.{Writing}
 use Rattle.gs_tree_store.specs.Books.{graphs_of, IsReady}
+use Rattle.gs_tree_store.specs.Births.{graph_births}
 use Rattle.gs_tree_store.specs.Actions.{Acts, ActsAny, IsReadyAny}
 use Rattle.gs_tree_store.proofs.SeatLemmas.{same_totals, same_graphs, ledger_stays}
-use Rattle.gs_tree_store.proofs.UploadLemmas.{moved_graphs, moved_ledger, moved_waste}
+use Rattle.gs_tree_store.proofs.UploadLemmas.{moved_graphs, moved_ledger, moved_waste, moved_births}
+use Rattle.gs_tree_store.proofs.BornLemmas.{equal_births, trees_bear}
 
 -- an upload has no more triples than there are numbers of nodes
 few_here : (b : Books) (s : ℕ) (k : UploadKind) (r birth : ℕ) (v : GraphVersion) (o : ℕ) (since : Option ℕ) (d : Numbered) (q : Nodes) (ts : List RdfTriple) (m : Merged) → length q.nodes < 2 ^ 32 → Stages birth b.dict.terms d.terms b.pool q v.root ts m
@@ -66,6 +69,7 @@ refused_here b s k r v o since ts d grows ready =
       grows = grows;
       ledgers = λ us rs l. record { ledger = ledger_stays (record b { dict = d }) s (Writing k r v o since) us rs l.read l.there l.ledger; waste = refl };
       takes = refl;
+      born = (λ u f. refl, λ f. refl);
     }
 
 pub stage_refused : (b : Books) (seat : Seat) (k : UploadKind) (r : ℕ) (v : GraphVersion) (o : ℕ) (since : Option ℕ) (ts : Vec RdfTriple Global) (d : Numbered) (q : Nodes) → seat ≡ Writing k r v o since → Grows b.dict d → q ≡ b.pool
@@ -113,6 +117,10 @@ staged b s k r birth v o since ts d q m born grows stages ready =
         waste = moved_waste b d q birth old new grows ready.sound u.step tree none some.uploads some.reads some.ledger.ledger;
       };
       takes = omega (arith, used, larger);
+      born = (
+        (λ x. equal_births (graph_births b x) (graph_births now x) (trees_bear b now refl kept.trees x)),
+        moved_births b d q birth old new grows ready.sound u.step tree none some.uploads some.reads some.ledger.ledger (subst (λ n. BornAt n p q) born u.step.born),
+      );
     }
 
 pub stage_done : (b : Books) (seat : Seat) (k : UploadKind) (r birth : ℕ) (v : GraphVersion) (o : ℕ) (since : Option ℕ) (ts : Vec RdfTriple Global) (xs : List RdfTriple) (d : Numbered) (q : Nodes) (m : Merged) → seat ≡ Writing k r v o since → xs ≡ ts.items → birth ≡ b.versions.commit + 1

@@ -5,6 +5,7 @@ use Rattle.gs_event.specs.declared.events.Action.{Action}
 use Rattle.gs_event.specs.declared.answers.Answer.{Answer}
 use Rattle.gs_event.specs.Phases as phase
 use Rattle.gs_event.specs.Views.{FitsSeat, next_totals, next_phase}
+use Rattle.gs_event.specs.Born.{Bearing, NoneBorn, Bears}
 use Rattle.gs_event.specs.Wasting.{WastesNodes}
 use Rattle.gs_event.specs.Steps.{pin_after}
 use Rattle.gs_dict.specs.Numbering.{Numbered}
@@ -16,6 +17,7 @@ use Rattle.gs_staging.proofs.KeyLemmas.{still_grows, grows_twice}
 use Rattle.gs_changes.specs.Endings.{Restores}
 use Rattle.gs_catalogue.specs.declared.versions.GraphVersion.{GraphVersion}
 use Rattle.gs_versions.specs.Pins.{with_pin}
+use Rattle.gs_ledger.specs.Entries.{tree_births}
 use Rattle.gs_ledger.specs.Marks.{dead_at, waste_at}
 use Rattle.gs_ledger.specs.Ledger.{IsLedger}
 use Rattle.gs_commit.specs.Laws.{IsSamePool}
@@ -29,7 +31,9 @@ use Rattle.gs_tree_store.specs.declared.books.Seat.{Seat}
 use Rattle.gs_tree_store.specs.declared.books.Seat.TheVariants.{Idle, Writing, Patching, Reading, ReadingAll}
 use Rattle.gs_tree_store.specs.LastWrites.{last_writes_of}
 use Rattle.gs_tree_store.specs.Books.{graphs_of, books_setting, dataset_of, totals_of, seat_view_by, upload_tree, read_trees, is_reading, IsSeat, HasItsVersion, IsSound, IsReady, HasLedger, HasLedgerAt}
-use Rattle.gs_tree_store.specs.Actions.{TakesNodes, Acts}
+use Rattle.gs_tree_store.specs.Births.{graph_births, upload_births}
+use Rattle.gs_tree_store.specs.Actions.{TakesNodes, bearing_by, Acts}
+use Rattle.gs_tree_store.proofs.BornLemmas.{equal_births, roots_bear}
 use Rattle.gs_tree_store.proofs.SeatLemmas.{SameGraphs, same_graphs, same_totals, still_sound, ledger_stays, read_ends}
 
 -- the books with other terms and another pool
@@ -145,6 +149,19 @@ module _ (b : Books) (d : Numbered) (q : Nodes) (grows : Grows b.dict d) (restor
                   (subst (λ p. WastesNodes (totals_of mid) p action answer (waste_at q) (waste_at new.pool)) view on.waste));
             };
         takes = subst (λ n. TakesNodes (seat_view_by b was) action answer n (in_use new.pool)) restores.in_use (subst (λ p. TakesNodes p action answer (in_use q) (in_use new.pool)) view acts.takes);
+        born =
+            let before : Bearing → Type 0 = λ x. Bears (totals_of b) (seat_view_by b was) action answer x in
+            let born : Bears (totals_of b) (seat_view_by b was) action answer (bearing_by mid new was now) =
+            subst (λ t. Bears t (seat_view_by b was) action answer (bearing_by mid new was now)) totals_same
+            (subst (λ p. Bears (totals_of mid) p action answer (bearing_by mid new was now)) view acts.born) in
+            subst before (λ i. record {
+              graphs = λ u. roots_bear b mid same.roots refl u i;
+              graphs_then = graph_births new;
+              own = tree_births (upload_same was i);
+              own_then = upload_births new now;
+              waste = same.waste i;
+              waste_then = waste_at new.pool;
+            }) born;
       }
 
 -- Nothing changes, and the answer says so.
@@ -154,8 +171,9 @@ pub nothing_done : (b : Books) (s : ℕ) (seat : Seat) (action : Action) (a : An
     → pin_after b.versions.commit (get_or b.versions.seats s None) action a ≡ get_or b.versions.seats s None
     → WastesNodes (totals_of b) (seat_view_by b seat) action a (waste_at b.pool) (waste_at b.pool)
     → TakesNodes (seat_view_by b seat) action a (in_use b.pool) (in_use b.pool)
+    → ((x : Bearing) → NoneBorn x → Bears (totals_of b) (seat_view_by b seat) action a x)
     → IsReady b s seat → Acts b b s seat seat action a
-nothing_done b s seat action a fits totals phase pin waste takes ready = record {
+nothing_done b s seat action a fits totals phase pin waste takes bears ready = record {
   fits = fits;
   totals = same_totals b b refl refl refl refl refl ∙ sym totals;
   seat = sym phase;
@@ -166,6 +184,7 @@ nothing_done b s seat action a fits totals phase pin waste takes ready = record 
   grows = still_grows b.dict b.dict refl;
   ledgers = λ us rs l. record { ledger = ledger_stays b s seat us rs l.read l.there l.ledger; waste = waste };
   takes = takes;
+  born = bears (bearing_by b b seat seat) (λ u f. refl, λ f. refl);
 }
 
 -- A read ends, or is given up: its seat is idle, and has nothing pinned.
@@ -176,8 +195,9 @@ pub read_over : (b : Books) (s : ℕ) (was : Seat) (action : Action) (a : Answer
     → upload_tree b.pool was ≡ leaf
     → WastesNodes (totals_of b) (seat_view_by b was) action a (waste_at b.pool) (waste_at b.pool)
     → TakesNodes (seat_view_by b was) action a (in_use b.pool) (in_use b.pool)
+    → ((x : Bearing) → NoneBorn x → Bears (totals_of b) (seat_view_by b was) action a x)
     → IsReady b s was → Acts b (record b { versions = with_pin b.versions s None }) s was Idle action a
-read_over b s was action a fits totals next pin none waste takes ready = record {
+read_over b s was action a fits totals next pin none waste takes bears ready = record {
   fits = fits;
   totals = same_totals b (record b { versions = with_pin b.versions s None }) refl refl refl refl refl ∙ sym totals;
   seat = sym next;
@@ -188,4 +208,5 @@ read_over b s was action a fits totals next pin none waste takes ready = record 
   grows = still_grows b.dict b.dict refl;
   ledgers = λ us rs l. record { ledger = read_ends b s us rs ready.there l.there (subst (λ t. HasLedger b (t ∷ us) rs) none l.ledger); waste = waste };
   takes = takes;
+  born = bears (bearing_by b (record b { versions = with_pin b.versions s None }) was Idle) (λ u f. refl, equal_births (upload_births b was) [] (sym (ap tree_births none)));
 }

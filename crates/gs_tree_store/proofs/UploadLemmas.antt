@@ -1,5 +1,6 @@
 -- An upload whose tree is another one, or none, and what stays beside it.
 use Rattle.std.proofs.Common.{◌≡◌, ℕ, ◌+◌, List, [], ◌∷◌, ◌++◌, length, take, Option, None, refl, sym, ap, subst, ◌∙◌, inl, arith}
+use Rattle.std.specs.List.{sum_by}
 use Rattle.std.proofs.lemmas.List.{take_all}
 use Rattle.std.proofs.lemmas.List.Elements.{All-head}
 use Rattle.std.proofs.lemmas.List.Sums.{sum_by-cons}
@@ -8,7 +9,7 @@ use Rattle.gs_pool.specs.declared.nodes.Key.{Key}
 use Rattle.gs_pool.specs.Pool.{Nodes, in_use, aside_count}
 use Rattle.gs_tree.specs.Tree.{Tree, leaf, root_of, keys, occurrences, tree_at}
 use Rattle.gs_tree.specs.Sets.{IsSetAt}
-use Rattle.gs_tree.specs.Steps.{Step}
+use Rattle.gs_tree.specs.Steps.{Step, BornAt}
 use Rattle.gs_tree.specs.Reading.{keys_from}
 use Rattle.gs_tree.proofs.FromLemmas.{from_all}
 use Rattle.gs_tree.proofs.TreeLemmas.{plain_count_same}
@@ -29,7 +30,10 @@ use Rattle.gs_staging.specs.Staging.{IsStaged}
 use Rattle.gs_catalogue.specs.declared.versions.GraphVersion.{GraphVersion}
 use Rattle.gs_staging.specs.Keys.{Grows}
 use Rattle.gs_event.specs.Waste.{Lifetime}
+use Rattle.gs_event.specs.Born.{Renews}
+use Rattle.gs_ledger.specs.Entries.{tree_births}
 use Rattle.gs_ledger.specs.Marks.{dead_at, waste_at}
+use Rattle.gs_ledger.proofs.Births.{stage_births}
 use Rattle.gs_ledger.specs.Ledger.{IsTreeOf, IsLedger}
 use Rattle.gs_ledger.proofs.Counts.{nodes_counted}
 use Rattle.gs_commit.specs.Laws.{GrowsUpload}
@@ -44,6 +48,7 @@ use Rattle.gs_tree_store.specs.Books.{graphs_of, totals_of, IsSound, HasLedger, 
 use Rattle.gs_tree_store.specs.Actions.{Acts, IsReadyAny}
 use Rattle.gs_tree_store.proofs.SeatLemmas.{SameGraphs, same_graphs}
 use Rattle.gs_tree_store.proofs.ConditionLemmas.{wants_in_time, upload_in_time}
+use Rattle.gs_tree_store.proofs.BornLemmas.{refused_bears}
 use Rattle.gs_tree_store.proofs.UndoneLemmas.{with_nodes, nothing_done}
 
 -- all keys were read into an empty list
@@ -110,6 +115,12 @@ module _ (b : Books) (d : Numbered) (q : Nodes) (birth : ℕ) (old new : Tree) (
     pub moved_waste : waste_at q ≡ waste_at b.pool
     moved_waste = (moved us₀ rs₀ l₀).waste
 
+    -- and the births of the upload are those that were there, or that of the next commit
+    pub moved_births : BornAt (b.versions.commit + 1) b.pool q → Renews b.versions.commit (tree_births old) (tree_births new) [] []
+    moved_births born =
+        stage_births b.pool q b.versions b.versions old new (graph_trees b.pool (graphs_of b)) us₀ rs₀ rs₀ (dead_at b.pool) (dead_at q) l₀ (moved us₀ rs₀ l₀).ledger born
+        (λ f. ap (sum_by f) moved_waste)
+
     -- the nodes in use are fewer by those of the old tree, and more by those of the new one
     pub moved_use : in_use q + length (keys old) ≡ in_use b.pool + length (keys new)
     moved_use =
@@ -122,6 +133,6 @@ module _ (b : Books) (d : Numbered) (q : Nodes) (birth : ℕ) (old new : Tree) (
 -- no memory for a POST, and nothing was done
 pub post_unread : (b : Books) (q : Nodes) (s : ℕ) (t : Target) (n : ℕ) (u : GraphVersion) (o : ℕ) (since : Option ℕ) (now : Seat) (a : Answer) → late_write_of b t since ≡ None → q ≡ b.pool → now ≡ Writing (Post t) n u o since → a ≡ Refused NoMemory → IsReady b s (Writing (Post t) n u o since) → Acts b (with_nodes b b.dict q) s (Writing (Post t) n u o since) now Commit a
 post_unread b q s t n u o since now a early same writes why ready =
-    let here : Acts b b s (Writing (Post t) n u o since) (Writing (Post t) n u o since) Commit (Refused NoMemory) = nothing_done b s (Writing (Post t) n u o since) Commit (Refused NoMemory) (wants_in_time (totals_of b) (asked_since since (Posts t (graph_of_root b.dict.terms b.pool u.root))) (upload_in_time b t since early) refl) refl refl refl refl refl ready in
+    let here : Acts b b s (Writing (Post t) n u o since) (Writing (Post t) n u o since) Commit (Refused NoMemory) = nothing_done b s (Writing (Post t) n u o since) Commit (Refused NoMemory) (wants_in_time (totals_of b) (asked_since since (Posts t (graph_of_root b.dict.terms b.pool u.root))) (upload_in_time b t since early) refl) refl refl refl refl refl (λ x none. refused_bears (totals_of b) (Post t) n (graph_of_root b.dict.terms b.pool u.root) since NoMemory x none) ready in
     subst (λ x. Acts b (with_nodes b b.dict x) s (Writing (Post t) n u o since) now Commit a) (sym same)
     (subst (λ x. Acts b b s (Writing (Post t) n u o since) x Commit a) (sym writes) (subst (λ x. Acts b b s (Writing (Post t) n u o since) (Writing (Post t) n u o since) Commit x) (sym why) here))

@@ -18,6 +18,7 @@ use Rattle.gs_event.specs.Phases.{write_of}
 use Rattle.gs_event.specs.Phases as phase
 use Rattle.gs_event.specs.Views.{Totals, state_of, FitsWrite}
 use Rattle.gs_event.specs.Waste.{Lifetime}
+use Rattle.gs_event.specs.Born.{Bearing, Hands, UploadBears}
 use Rattle.gs_event.specs.Wasting.{Joins, JoinsBoth, IsUnreached, EndsAt, most_for_new, UploadNodes, UploadRecords}
 use Rattle.gs_pool.specs.declared.nodes.Node.{Node}
 use Rattle.gs_pool.specs.Pool.{Nodes, in_use, aside_count}
@@ -39,10 +40,12 @@ use Rattle.gs_tree_store.specs.declared.books.Books.{Books}
 use Rattle.gs_tree_store.specs.declared.books.Seat.{Seat}
 use Rattle.gs_tree_store.specs.declared.books.Seat.TheVariants.{Idle, Writing}
 use Rattle.gs_tree_store.specs.Books.{graphs_of, books_setting, dataset_of, totals_of, upload_tree, IsSound, HasLedger, HasLedgerAt, IsReady}
+use Rattle.gs_tree_store.specs.Births.{graph_births, upload_births}
 use Rattle.gs_tree_store.specs.LastWrites.{last_writes_of}
 use Rattle.gs_tree_store.specs.Writes.{HasUpload, EndsOneVersion, Puts, GivesUpUpload}
 use Rattle.gs_tree_store.specs.Verdicts.{HasCounts}
-use Rattle.gs_tree_store.specs.Actions.{TakesNodes, Acts, IsReadyAny}
+use Rattle.gs_tree_store.specs.Actions.{TakesNodes, bearing_by, Acts, IsReadyAny}
+use Rattle.gs_tree_store.proofs.BornLemmas.{equal_births, roots_bear, refused_bears, failed_bears}
 use Rattle.gs_tree_store.proofs.ConditionLemmas.{ComesTo, fits_so, totals_so, comes_done, comes_undone, post_done}
 use Rattle.gs_tree_store.proofs.SeatLemmas.{same_totals}
 use Rattle.gs_tree_store.proofs.AlikeLemmas.{gives_up_same, acts_alike}
@@ -128,6 +131,7 @@ commit_refused b s k r v o since fits ready = record {
   grows = still_grows b.dict b.dict refl;
   ledgers = λ us rs l. record { ledger = subst (HasLedgerAt b s (Writing k r v o since) us) (sym (set_there rs s [] [] l.read)) l; waste = refl };
   takes = refused_takes k r (upload_graph b v) since LastNumber (in_use b.pool);
+  born = refused_bears (totals_of b) k r (upload_graph b v) since LastNumber (bearing_by b b (Writing k r v o since) (Writing k r v o since)) (λ u f. refl, λ f. refl);
 }
 
 -- nodes that stay are the same trees
@@ -196,6 +200,8 @@ commit_failed b new s k r v o since status number drops comes fails ready takes 
                 (failed_wastes (totals_of b) k g (waste_at b.pool) (waste_at q) (subst (λ n. Joins IsUnreached n (waste_at b.pool) (waste_at q)) size d.waste));
           };
       takes = takes (in_use b.pool) (in_use q) (same_use b.pool q drops.nodes);
+      born = subst (λ x. UploadBears (totals_of b) k r x (bearing_by b dropped (Writing k r v o since) Idle)) (sym fails)
+          (failed_bears (totals_of b) k r (bearing_by b dropped (Writing k r v o since) Idle) (λ u. equal_births (graph_births b u) (graph_births dropped u) (roots_bear b dropped (roots_same b.pool q drops.nodes) refl u)) refl);
     }))
 
 -- so it was where it was beyond the limits, or came too late
@@ -213,8 +219,9 @@ pub commit_stored : (old new : Books) (s : ℕ) (k : UploadKind) (r : ℕ) (v : 
     → IsStored (books_setting old) (dataset_of old) (write_of k r (upload_graph old v)) t (upload_graph old v) status → name ≡ location_of (books_setting old) (dataset_of old) (write_of k r (upload_graph old v)) → number ≡ new.versions.commit
     → last_writes_after (books_setting old) (dataset_of old) (last_writes_of old) (old.versions.commit + 1) (write_of k r (upload_graph old v)) ≡ with_write (last_writes_of old) (old.versions.commit + 1) t
     → ((a b : List Lifetime) → Joins (EndsAt (old.versions.commit + 1)) (size_at (dataset_of old) t) a b → UploadNodes (totals_of old) k (upload_graph old v) true a b)
+    → ((x : Bearing) → Hands old.versions.commit t x → x.own_then ≡ [] → UploadBears (totals_of old) k r true x)
     → IsReady old s (Writing k r v o since) → Acts old new s (Writing k r v o since) Idle Commit (Status status name number)
-commit_stored old new s k r v o since t status name number puts left in_time stored reported is writes wastes ready =
+commit_stored old new s k r v o since t status name number puts left in_time stored reported is writes wastes bears ready =
     let g = upload_graph old v in
     let q = asked_by old k r v since in
     let kept = puts.kept in
@@ -234,12 +241,22 @@ commit_stored old new s k r v o since t status name number puts left in_time sto
       version = tt;
       grows = still_grows old.dict new.dict kept.dict;
       ledgers = λ us rs l.
-          let e : EndsOneVersion old new (size_at (dataset_of old) t) us rs = puts.ledgers us rs l.ledger in
+          let e : EndsOneVersion old new (size_at (dataset_of old) t) (graph_births old t) us rs = puts.ledgers us rs l.ledger in
           record {
             ledger = idle_ledger new s us rs l.there l.read e.ledger;
             waste = subst (λ b. UploadNodes (totals_of old) k g b (waste_at old.pool) (waste_at new.pool)) (sym stored.well) (wastes (waste_at old.pool) (waste_at new.pool) e.waste);
           };
       takes = stored_takes k r g since status name (old.versions.commit + 1) (in_use old.pool) (in_use new.pool) stored.well (same_use old.pool new.pool kept.nodes);
+      born =
+          let own = ready.ledger in
+          let e : EndsOneVersion old new (size_at (dataset_of old) t) (graph_births old t) own.uploads own.reads = puts.ledgers own.uploads own.reads own.ledger.ledger in
+          let x = bearing_by old new (Writing k r v o since) Idle in
+          let handed : Hands old.versions.commit t x = (
+            (λ u other. equal_births (graph_births old u) (graph_births new u) (puts.births.others u other)),
+            equal_births (upload_births old (Writing k r v o since)) (graph_births new t) puts.births.own,
+            e.leave,
+          ) in
+          subst (λ y. UploadBears (totals_of old) k r y x) (sym stored.well) (bears x handed refl);
     })
 
 -- where an upload leaves no waste, that is what was replaced

@@ -10,6 +10,7 @@ use Rattle.gs_event.specs.declared.answers.Answer.TheVariants.{Staged, Status}
 use Rattle.gs_event.specs.Operations.{is_success}
 use Rattle.gs_event.specs.Phases.{Writing}
 use Rattle.gs_event.specs.Views.{SeatView, FitsSeat, next_totals, next_phase}
+use Rattle.gs_event.specs.Born.{Bearing, Bears}
 use Rattle.gs_event.specs.Wasting.{WastesNodes}
 use Rattle.gs_event.specs.Steps.{pin_after}
 use Rattle.gs_pool.specs.Pool.{in_use}
@@ -20,6 +21,7 @@ use Rattle.gs_tree_store.specs.declared.books.Books.{Books}
 use Rattle.gs_tree_store.specs.declared.books.Seat.{Seat}
 use Rattle.gs_tree_store.specs.Uses.{SameUnless, PostUses}
 use Rattle.gs_tree_store.specs.Books.{totals_of, seat_view_by, read_trees, IsSeat, HasItsVersion, IsSound, IsReady, HasLedgerAt}
+use Rattle.gs_tree_store.specs.Births.{graph_births, upload_births}
 
 -- What a seat's action that was answered so makes of the number of nodes in use: what it makes of that of nodes and records, but that an
 -- Open takes no node.
@@ -39,6 +41,17 @@ abbrev pub GoesOnAll : Books → Books → ℕ → Seat → Seat → Action → 
 GoesOnAll old new s was now action answer =
     (uploads : List Tree) (reads : List (List Tree)) → HasLedgerAt old s was uploads reads → GoesOn old new s was now action answer uploads reads
 
+-- the births of graphs and of the seat's upload, and the waste of nodes, before an action and after it
+abbrev pub bearing_by : Books → Books → Seat → Seat → Bearing
+bearing_by old new was now = record {
+  graphs = graph_births old;
+  graphs_then = graph_births new;
+  own = upload_births old was;
+  own_then = upload_births new now;
+  waste = waste_at old.pool;
+  waste_then = waste_at new.pool;
+}
+
 -- what an action of seat s that was answered so made of the books and of the seat
 pub record Acts (old new : Books) (s : ℕ) (was now : Seat) (action : Action) (answer : Answer) : Type 0 where
   pub fits : FitsSeat (totals_of old) (seat_view_by old was) action answer
@@ -51,6 +64,7 @@ pub record Acts (old new : Books) (s : ℕ) (was now : Seat) (action : Action) (
   pub grows : Grows old.dict new.dict
   pub ledgers : GoesOnAll old new s was now action answer
   pub takes : TakesNodes (seat_view_by old was) action answer (in_use old.pool) (in_use new.pool)
+  pub born : Bears (totals_of old) (seat_view_by old was) action answer (bearing_by old new was now)
 
 -- there is a seat that the books are ready for
 pub record IsReadyAny (b : Books) (seat : Seat) : Type 0 where

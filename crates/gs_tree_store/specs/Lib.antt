@@ -1,7 +1,8 @@
--- Read in this order: the numbers of last writes, what books and seats show, which records the seats have open, what a write makes of the books, how many nodes and
+-- Read in this order: the numbers of last writes, what books and seats show, the births of their trees, which records the seats have open, what a write makes of the books, how many nodes and
 -- records an event takes, what an action makes of the books and of a seat, and what is true of every store.
 pub mod LastWrites
 pub mod Books
+pub mod Births
 pub mod Opened
 pub mod Writes
 pub mod Verdicts

@@ -1,5 +1,5 @@
 //! What a seat's action does to the books and to the seat. A refused action changes neither, but that terms
-//! may have been given numbers.
+//! may have been given numbers, and the upload of a POST is made again.
 ghost use Rattle.gs_tree_store.specs.Books.{IsReady};
 ghost use Rattle.gs_tree_store.specs.Opened.{HasRecord, KeepsRecords};
 ghost use Rattle.gs_tree_store.specs.Actions.{Acts, ActsAny, IsReadyAny};

@@ -6,6 +6,7 @@ ghost use Rattle.gs_event.specs.Datasets.{triples_in};
 ghost use Rattle.gs_event.specs.Views.{Fits, next_view};
 ghost use Rattle.gs_event.specs.Steps.{Steps, next_pinned, Wastes};
 ghost use Rattle.gs_event.specs.Histories.{start_with, ShowsStart, HasStartPins};
+ghost use Rattle.gs_event.specs.Births.{no_births};
 ghost use Rattle.gs_event.specs.Waste.{nodes_in};
 ghost use Rattle.gs_tree_store.specs.Uses.{UsesNodes};
 
@@ -65,6 +66,7 @@ impl TreeStore {
         ensures view { IfOk result (ShowsStart (start_with seats base.now limits request commit)) }
         ensures pinned { IfOk result (HasStartPins (start_with seats base.now limits request commit)) }
         ensures waste { IfOk result (λ store. store.waste ≡ []) }
+        ensures births { IfOk result (λ store. store.births ≡ no_births seats) }
         ensures refused { IfErr result (λ refusal. refusal ≡ Refusal.NoMemory) }
     {
         let idle = idle_seats(alloc, seats)?;
@@ -91,7 +93,7 @@ impl TreeStore {
         })
     }
 
-    /// Takes one event. A refused one changes nothing.
+    /// Takes one event. A refused one changes nothing but births, where the upload of a POST is made again.
     #[tactic(auto, using(crate::proofs::StepLemmas::reclaim_uses))]
     pub fn step(&mut self, event: &Event) -> Answer
         ensures steps { Steps self.old event.now result self.new }

@@ -2,6 +2,7 @@
 ghost use Rattle.std.specs.Prelude.{◌≡◌, ◌≤◌, ℕ, true, [], IfOk, IfErr, IsErr, OnOk, OnErr};
 ghost use Rattle.gs_model.specs.Bases.{is_base};
 ghost use Rattle.gs_model.specs.Limits.{max_seats};
+ghost use Rattle.gs_event.specs.Births.{no_births};
 ghost use Rattle.gs_world.specs.Walks.{Apart, ChangesOne, Gets, InputEnds, MovesOn, LeavesSeat, FreesNodes, Walks, IsLive, HasText, IsGivenUp, RefusesStep};
 ghost use Rattle.gs_world.specs.Worlds.{AreFresh, LeadsToWorld, RunsSteps, IsCutAt, written_on};
 
@@ -33,6 +34,7 @@ impl World {
         ensures stands { IfOk result
             (λ w. LeadsToWorld (record { base = base.now; piece = piece }) connections w [] []) }
         ensures waste { IfOk result (λ w. w.store.waste ≡ []) }
+        ensures births { IfOk result (λ w. w.store.births ≡ no_births connections) }
         ensures refused { IfErr result (λ refusal. refusal ≡ Refusal.NoMemory) }
     {
         let store = Store::new(alloc, connections, base)?;

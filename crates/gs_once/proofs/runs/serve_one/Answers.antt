@@ -14,5 +14,6 @@ returns g c =
       shows = c.in-Ok.ensures.view;
       pins = c.in-Ok.ensures.pinned;
       waste = c.in-Ok.ensures.waste;
+      births = c.in-Ok.ensures.births;
       served = c.in-Err.ensures.front;
     })

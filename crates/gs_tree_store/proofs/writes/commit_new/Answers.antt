@@ -71,7 +71,7 @@ returns-in-Granted-clause-acts c = λ s ready.
     let name = ap Some c.in-Ok.ensures.1 ∙ name_reported w m r g decided.0 in
     subst (λ x. Acts b new s (Writing New r c.args.upload c.args.opened c.args.since) x Commit (Status status (Some c.in-Ok.location) c.commit-in-Granted.result)) (sym c.requires.idle)
     (commit_stored b new s New r c.args.upload c.args.opened c.args.since (Named own) status (Some c.in-Ok.location) c.commit-in-Granted.result puts decided.2 refl stored name c.commit-in-Granted.ensures refl
-    (λ x y j. taken_over b.versions.commit (size_of g) (size_at m (Named own)) x y (omega (arith, new_is_empty (string_bytes b.base) m r)) j) ready)
+    (λ x y j. taken_over b.versions.commit (size_of g) (size_at m (Named own)) x y (omega (arith, new_is_empty (string_bytes b.base) m r)) j) (λ x handed none. (handed, none)) ready)
 
 pub returns-in_default-clause-records : goal.returns-in_default-clause-records
 returns-in_default-clause-records c =

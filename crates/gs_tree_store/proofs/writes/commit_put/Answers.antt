@@ -45,7 +45,7 @@ returns-in-Granted-clause-acts c = λ s ready.
     let decided = c.in-Granted.ensures in
     let stored = is_stored (books_setting b) (dataset_of b) b.versions.commit (Puts t g) t g refl refl c.in-Granted.status c.in-Granted.field-1 c.in-Granted.field-2 decided in
     subst (λ x. Acts b c.put_version.new.books s (Writing (Put t) c.args.request c.args.upload c.args.opened c.args.since) x Commit (Status c.in-Granted.status None c.commit-in-Granted.result)) (sym c.requires.idle)
-    (commit_stored b c.put_version.new.books s (Put t) c.args.request c.args.upload c.args.opened c.args.since t c.in-Granted.status None c.commit-in-Granted.result c.put_version.ensures decided.2 (upload_in_time b t c.args.since c.requires.in_time) stored refl c.commit-in-Granted.ensures refl (λ a b j. j) ready)
+    (commit_stored b c.put_version.new.books s (Put t) c.args.request c.args.upload c.args.opened c.args.since t c.in-Granted.status None c.commit-in-Granted.result c.put_version.ensures decided.2 (upload_in_time b t c.args.since c.requires.in_time) stored refl c.commit-in-Granted.ensures refl (λ a b j. j) (λ x handed none. (handed, none)) ready)
 
 pub returns-in-Full-clause-records : goal.returns-in-Full-clause-records
 returns-in-Full-clause-records c =

@@ -19,5 +19,7 @@ returns c = record {
         | else-nodes w ↦ w.result-is ∙ sym (ap (λ x. x || gone.result.left) w.if-nodes.false)
       ] in
       steps_reclaimed c.self.inside nodes.new.pool c.self.invariant nodes.ensures.ledgers gone.new.self c.args.count nodes.result.freed gone.result.freed nodes.result.left gone.result.left gone.ensures c.latest-before.ensures.listed c.latest-after.ensures.listed
-      c.args.self.now c.if-nodes.result c.self.view_is more nodes.ensures.waste;
+      c.args.self.now c.if-nodes.result
+      (kept_reclaimed c.self.inside nodes.new.pool c.self.invariant nodes.ensures.ledgers gone.new.self c.args.count nodes.result.freed gone.result.freed nodes.result.left gone.result.left gone.ensures c.latest-before.ensures.listed c.latest-after.ensures.listed nodes.ensures.none_aside)
+      c.self.view_is more nodes.ensures.waste;
 }

@@ -2,7 +2,7 @@ use Rattle.std.proofs.Common.{refl, ap, ◌∙◌, [], arith}
 use Rattle.gs_event.specs.Histories.{start_with, view_of}
 use Rattle.gs_records.specs.Records.{Recorded}
 use Rattle.gs_tree_store.specs.declared.stores.TreeStore.TheInside.{Inside}
-use Rattle.gs_tree_store.proofs.FreshLemmas.{IsFresh, fresh_kept, fresh_waste, fresh_view, fresh_pins}
+use Rattle.gs_tree_store.proofs.FreshLemmas.{IsFresh, fresh_kept, fresh_waste, fresh_births, fresh_view, fresh_pins}
 use Rattle.gs_tree_store.proofs.stores.TreeStore.starting_at.Goals as goal
 
 abbrev made : goal.In_ok-records → Inside
@@ -34,3 +34,6 @@ returns-clause-pinned c = fresh_pins (made c) c.args.seats c.args.commit (is_fre
 
 pub returns-clause-waste : goal.returns-clause-waste
 returns-clause-waste c = fresh_waste (made c) c.args.seats c.args.commit (is_fresh c)
+
+pub returns-clause-births : goal.returns-clause-births
+returns-clause-births c = fresh_births (made c) c.args.seats c.args.commit (is_fresh c)
