@@ -33,7 +33,7 @@ impl Slot {
         let Slot::Upload(upload) = self else {
             return true;
         };
-        upload.make_room(list.as_slice())
+        upload.make_room(list)
     }
 
     /// Takes note of an answer to an action. What the call decided, and its status, if it decided
@@ -117,7 +117,7 @@ fn after_upload(
     match action {
         Action::Stage(list) => match answer {
             Answer::Staged => {
-                upload.stage(list.as_slice());
+                upload.stage(&list);
                 (Slot::Upload(upload), None)
             }
             _ => (Slot::Upload(upload), None),

@@ -5,6 +5,7 @@ use gs_core::{Action, Answer, Event, UploadKind};
 use gs_event::Scope;
 use gs_model::Refusal;
 use gs_term::Target;
+use gs_triple_lists::TripleList;
 use std::alloc::Global;
 
 /// So many Heads of the default graph, and then a PUT of each of these numbers of triples, 0 for none;
@@ -123,7 +124,8 @@ fn last_triples(store: &Small) -> Option<usize> {
 fn wrong_of_none(alloc: Global, store: &mut Small) -> Result<Option<&'static str>, Refusal> {
     let kind = UploadKind::Put(cats(alloc)?);
     drop(store.event(Event::Seat(0, Action::Open(kind, None))));
-    let stage = store.event(Event::Seat(0, Action::Stage(Vec::new(alloc))));
+    let none = Action::Stage(TripleList::new(alloc));
+    let stage = store.event(Event::Seat(0, none));
     let is_staged = matches!(stage, Answer::Staged);
     drop(stage);
     let commit = store.event(Event::Seat(0, Action::Commit));

@@ -3,6 +3,7 @@ use gs_audit::Audited;
 use gs_core::{Action, Answer, Event, UploadKind, is_base};
 use gs_model::Refusal;
 use gs_term::{GraphName, Target, TermText, Triple};
+use gs_triple_lists::TripleList;
 use std::alloc::Global;
 
 /// A store whose page takes four entries with six triples in all.
@@ -41,12 +42,12 @@ fn triple(alloc: Global, number: u8) -> Result<Triple, Refusal> {
 }
 
 /// So many triples, each with an object of its own.
-pub fn triples(alloc: Global, count: u8) -> Result<Vec<Triple>, Refusal> {
+pub fn triples(alloc: Global, count: u8) -> Result<TripleList, Refusal> {
     let mut list = Vec::new(alloc);
     for number in 0..count {
         list.push(triple(alloc, number)?)?;
     }
-    Ok(list)
+    Ok(TripleList::of(alloc, list)?)
 }
 
 /// The named graph that rows write.

@@ -9,6 +9,7 @@ use gs_iri::is_absolute;
 use gs_lex::Lexer;
 use gs_model::Refusal;
 use gs_ntread::NTriplesReader;
+use gs_triple_lists::TripleList;
 use gs_turtle::TurtleReader;
 use gs_update::read_update;
 use std::alloc::Global;
@@ -54,6 +55,26 @@ fn wanted(rt: &(impl Env + AllocGlobal)) -> io::Result<Mode> {
     }
 }
 
+/// How many triples a reader gives of a piece.
+fn count_piece<B: BodyReader>(alloc: Global, reader: &mut B, piece: &[u8]) -> Result<u64, Refusal> {
+    let mut triples = TripleList::new(alloc);
+    let fed = reader.feed(piece, &mut triples);
+    let counted = triples.len() as u64;
+    drop(triples);
+    fed?;
+    Ok(counted)
+}
+
+/// How many triples it gives as the text ends.
+fn count_end<B: BodyReader>(alloc: Global, reader: &mut B) -> Result<u64, Refusal> {
+    let mut triples = TripleList::new(alloc);
+    let ended = reader.finish(&mut triples);
+    let counted = triples.len() as u64;
+    drop(triples);
+    ended?;
+    Ok(counted)
+}
+
 /// How many triples a reader finds in the text, or the text's fault.
 fn count<R: Read, B: BodyReader + Drop>(
     alloc: Global,
@@ -62,23 +83,27 @@ fn count<R: Read, B: BodyReader + Drop>(
     size: usize,
 ) -> io::Result<Result<u64, Refusal>> {
     let mut piece = vec![in alloc; 0u8; size]?;
-    let mut triples = Vec::new(alloc);
     let mut counted = 0u64;
     for _ in 0..u64::MAX {
         let read = input.read(&mut piece)?;
         if read == 0 {
             break;
         }
-        if let Err(refusal) = reader.feed(&piece[..read], &mut triples) {
-            return Ok(Err(refusal));
+        match count_piece(alloc, &mut reader, &piece[..read]) {
+            Ok(more) => counted = counted.saturating_add(more),
+            Err(refusal) => return Ok(Err(refusal)),
         }
-        counted = counted.saturating_add(triples.len() as u64);
-        triples.clear();
     }
-    if let Err(refusal) = reader.finish(&mut triples) {
-        return Ok(Err(refusal));
+    match count_end(alloc, &mut reader) {
+        Ok(more) => Ok(Ok(counted.saturating_add(more))),
+        Err(refusal) => Ok(Err(refusal)),
     }
-    Ok(Ok(counted.saturating_add(triples.len() as u64)))
+}
+
+/// How many triples a reader finds in the whole text, which is one piece.
+fn count_whole<B: BodyReader>(alloc: Global, reader: &mut B, text: &[u8]) -> Result<u64, Refusal> {
+    let counted = count_piece(alloc, reader, text)?;
+    Ok(counted.saturating_add(count_end(alloc, reader)?))
 }
 
 /// How many triples of Turtle the text has, or its fault.
@@ -103,14 +128,7 @@ fn count_whole_turtle<R: Read>(alloc: Global, input: &mut R) -> io::Result<Resul
     let mut reader = TurtleReader::new(alloc, 1, BASE)?;
     let mut text = Vec::new(alloc);
     input.read_to_end(&mut text)?;
-    let mut triples = Vec::new(alloc);
-    if let Err(refusal) = reader.feed(text.as_slice(), &mut triples) {
-        return Ok(Err(refusal));
-    }
-    if let Err(refusal) = reader.finish(&mut triples) {
-        return Ok(Err(refusal));
-    }
-    Ok(Ok(triples.len() as u64))
+    Ok(count_whole(alloc, &mut reader, text.as_slice()))
 }
 
 /// How many tokens of Turtle the text has, or its fault.

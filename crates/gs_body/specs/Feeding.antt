@@ -1,9 +1,10 @@
 -- What one call of a reader does, in the words of its trait.
-use Rattle.std.specs.Prelude.{◌≡◌, ℕ, List, ◌++◌, Vec, Result, OnOk}
+use Rattle.std.specs.Prelude.{◌≡◌, ℕ, List, ◌++◌, Result, OnOk}
 use Rattle.gs_model.specs.Triples.{RdfTriple}
 use Rattle.gs_model.specs.declared.refusals.Refusal.{Refusal}
 use Rattle.gs_machine.specs.Machines.{AreSettled, Begins}
 use Rattle.gs_machine.specs.Utf8.{IsLongestFront}
+use Rattle.gs_triple_lists.specs.Lists.{Listed}
 use Rattle.gs_body.specs.Bodies.{Meaning, Whole, Reports, all_stated}
 
 -- A piece was fed: the list grew by some triples. With them a reader of x that had given ts has given exactly the
@@ -26,8 +27,8 @@ pub record Finishes {R : Type 0} (meaning_of : R → List ℕ → Meaning) (Lead
   pub all : (x : List ℕ) (ts : List RdfTriple) → Leads old x ts → all_stated (meaning_of old x).0 ≡ ts ++ given
 
 -- a call that fed a piece, if it was not refused: a list of triples grew as `Feeds` says
-abbrev pub FedInto : {R E Y Z : Type 0} → (R → List ℕ → Meaning) → (R → List ℕ → List RdfTriple → Type 0) → (old new : R) → List ℕ
-    → (before after : Vec RdfTriple Z) → Result Y E → Type 0
+abbrev pub FedInto : {R E Y : Type 0} → (R → List ℕ → Meaning) → (R → List ℕ → List RdfTriple → Type 0) → (old new : R) → List ℕ
+    → (before after : Listed) → Result Y E → Type 0
 FedInto meaning_of Leads old new piece before after answer = OnOk answer (Feeds meaning_of Leads old new piece before.items after.items)
 
 -- a refusal of a piece reports the fault of each text that goes on with it, whatever comes then

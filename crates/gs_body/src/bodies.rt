@@ -4,7 +4,7 @@ ghost use Rattle.gs_model.specs.Triples.{RdfTriple};
 ghost use Rattle.gs_body.specs.Bodies.{Meaning};
 
 use gs_model::Refusal;
-use gs_term::Triple;
+use gs_triple_lists::TripleList;
 
 /// A reader of a body that comes in pieces, cut anywhere, also inside a character or a token.
 ///
@@ -28,7 +28,7 @@ pub trait BodyReader {
     /// that every text has that begins with the longest prefix of the text so far that ends between
     /// two characters. A statement that only the first bytes of the next character would complete is
     /// given once that character ends.
-    fn feed(&mut self, piece: &[u8], triples: &mut Vec<Triple>) -> Result<(), Refusal>
+    fn feed(&mut self, piece: &[u8], triples: &mut TripleList) -> Result<(), Refusal>
         ensures given { FedInto meaning_of Leads self.old self.new piece.now triples.old triples.new result }
         // The text has that fault, however it goes on.
         ensures fault { IfErr result (λ e. IsFaultOn meaning_of Leads self.old piece.now e) }
@@ -39,7 +39,7 @@ pub trait BodyReader {
         ensures reading { (x : List ℕ) → meaning_of self.new x ≡ meaning_of self.old x };
 
     /// The text ends: appends the triples that are complete by that.
-    fn finish(&mut self, triples: &mut Vec<Triple>) -> Result<(), Refusal>
+    fn finish(&mut self, triples: &mut TripleList) -> Result<(), Refusal>
         ensures given { OnOk result (Finishes meaning_of Leads self.old triples.old.items triples.new.items) }
         ensures fault { IfErr result (λ e. IsFaultAtEnd meaning_of Leads self.old e) }
         ensures kept { OnErr result (triples.new.items ≡ triples.old.items) }

@@ -4,7 +4,7 @@ ghost use Rattle.gs_body.specs.Bodies.{Reports, Whole, all_stated, whole_text};
 
 use crate::bodies::BodyReader;
 use gs_model::Refusal;
-use gs_term::Triple;
+use gs_triple_lists::TripleList;
 use std::alloc::Global;
 
 /// What a text says that comes in these pieces: its triples where it has no fault, and else its
@@ -13,7 +13,7 @@ pub fn read_pieces<R: BodyReader + Drop>(
     alloc: Global,
     mut reader: R,
     pieces: &[Vec<u8>],
-) -> Result<Vec<Triple>, Refusal>
+) -> Result<TripleList, Refusal>
     requires fresh { R.Leads reader [] [] }
     requires unread { R.is_closed reader ≡ false }
     ensures given { IfOk result (λ v. v.items ≡ all_stated (R.meaning_of reader (whole_text pieces.now)).0) }
@@ -21,7 +21,7 @@ pub fn read_pieces<R: BodyReader + Drop>(
     ensures fault { IfErr result (λ e. Reports e (R.meaning_of reader (whole_text pieces.now))) }
     ensures reported { IfErr result (λ e. e ≢ Refusal.Closed) }
 {
-    let mut triples = Vec::new(alloc);
+    let mut triples = TripleList::new(alloc);
     for piece in pieces {
         reader.feed(piece.as_slice(), &mut triples)?;
     }

@@ -3,7 +3,7 @@ ghost use Rattle.std.specs.Prelude.{◌≡◌};
 
 use gs_event::UploadKind;
 use gs_packed_triples::{PackedTriples, UnpackedTriples};
-use gs_term::Triple;
+use gs_triple_lists::TripleList;
 use std::alloc::Global;
 
 /// What was staged since an upload was opened: the triples, packed, in the order in which they came.
@@ -73,25 +73,25 @@ impl Upload {
     }
 
     /// Makes room for a list. False where that was refused.
-    pub fn make_room(&mut self, list: &[Triple]) -> bool
+    pub fn make_room(&mut self, list: &TripleList) -> bool
         ensures kind { self.new.kind ≡ self.old.kind }
         ensures request { self.new.request ≡ self.old.request }
         ensures since { self.new.since ≡ self.old.since }
         ensures triples { staged_triples self.new ≡ staged_triples self.old }
-        ensures room { result ≡ true → HasRoomToStage self.new list.now }
+        ensures room { result ≡ true → HasRoomToStage self.new list.now.items }
     {
         self.packed.make_room(list)
     }
 
     /// Packs a list, for which there is room. Takes no memory.
     #[tactic(auto, using(crate::proofs::UploadLemmas::more_staged))]
-    pub fn stage(&mut self, list: &[Triple])
-        requires { HasRoomToStage self.old list.now }
+    pub fn stage(&mut self, list: &TripleList)
+        requires { HasRoomToStage self.old list.now.items }
         ensures kind { self.new.kind ≡ self.old.kind }
         ensures request { self.new.request ≡ self.old.request }
         ensures since { self.new.since ≡ self.old.since }
-        ensures triples { staged_triples self.new ≡ staged_triples self.old ++ list.now }
-        ensures graph { staged_graph self.new ≡ with_triples (staged_graph self.old) list.now }
+        ensures triples { staged_triples self.new ≡ staged_triples self.old ++ list.now.items }
+        ensures graph { staged_graph self.new ≡ with_triples (staged_graph self.old) list.now.items }
     {
         self.packed.add(list);
     }

@@ -11,6 +11,7 @@ use crate::words::{after, number, split};
 use gs_event::{Action, Event, UploadKind};
 use gs_model::{LAST_NUMBER, MAX_SEATS};
 use gs_term::Triple;
+use gs_triple_lists::TripleList;
 use gs_upload::Language;
 use std::alloc::{AllocError, Global};
 
@@ -64,10 +65,10 @@ fn read_triple(alloc: Global, text: &[u8]) -> Result<Option<Triple>, AllocError>
     read_line(alloc, line.as_slice())
 }
 
-fn list_of(alloc: Global, triple: Triple) -> Result<Vec<Triple>, AllocError>
+fn list_of(alloc: Global, triple: Triple) -> Result<TripleList, AllocError>
     ensures { IfOk result (λ list. list.items ≡ triple ∷ []) }
 {
-    let mut list = Vec::with_capacity(alloc, 1)?;
+    let mut list = TripleList::new(alloc);
     list.push(triple)?;
     Ok(list)
 }

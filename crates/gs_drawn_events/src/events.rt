@@ -4,7 +4,8 @@ use crate::molds::{Mold, Slot, VARIABLES};
 use crate::terms::{term, triple};
 use gs_event::{self, Action, Event, Op, UploadKind};
 use gs_model::Refusal;
-use gs_term::{GraphName, Part, Pattern, Target, Triple, VariableName};
+use gs_term::{GraphName, Part, Pattern, Target, VariableName};
+use gs_triple_lists::TripleList;
 use std::alloc::{AllocError, Global};
 
 /// Names that the store makes up begin with this.
@@ -44,12 +45,12 @@ fn scope(alloc: Global, scope: Scope) -> Result<gs_event::Scope, Refusal> {
 }
 
 /// The triples of these numbers.
-pub fn triples(alloc: Global, numbers: &[usize]) -> Result<Vec<Triple>, Refusal> {
+pub fn triples(alloc: Global, numbers: &[usize]) -> Result<TripleList, Refusal> {
     let mut list = Vec::new(alloc);
     for number in numbers {
         list.push(triple(alloc, *number)?)?;
     }
-    Ok(list)
+    Ok(TripleList::of(alloc, list)?)
 }
 
 fn part(alloc: Global, slot: Slot) -> Result<Part, Refusal> {

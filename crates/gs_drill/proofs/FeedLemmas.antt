@@ -1,10 +1,10 @@
 -- Feeds and commits, from what the store and the uploads do.
-use Rattle.std.proofs.Common.{◌≡◌, ◌≢◌, ◌<◌, ℕ, true, false, List, [], ◌∷◌, length, Option, Some, None, is_some, MatchOption, option_map, refl, sym, ap, ◌∙◌, subst, Vec, Global}
+use Rattle.std.proofs.Common.{◌≡◌, ◌≢◌, ◌<◌, ℕ, true, false, List, [], ◌∷◌, length, Option, Some, None, is_some, MatchOption, option_map, refl, sym, ap, ◌∙◌, subst}
 use Rattle.std.specs.List.{slice_get}
 use Rattle.std.proofs.lemmas.Option.{slice_get-map, slice_get_within}
 use Rattle.gs_model.specs.Triples.{RdfTriple}
 use Rattle.gs_model.specs.declared.refusals.Refusal.TheVariants.{BadSeat, WrongPhase}
-use Rattle.gs_term.specs.declared.triples.Triple.{Triple}
+use Rattle.gs_triple_lists.specs.Lists.{Listed}
 use Rattle.gs_event.specs.declared.events.Action.TheVariants.{Stage, Commit}
 use Rattle.gs_event.specs.declared.events.Event.TheVariants.{Seat as At}
 use Rattle.gs_event.specs.declared.answers.Answer.{Answer}
@@ -27,12 +27,12 @@ use Rattle.gs_feeding.specs.SeatTexts.{first_context}
 pub stages_none : (d : Desk) (s : ℕ) (given : List RdfTriple) → given ≡ [] → StagesByEvent d s given Staged d
 stages_none d s given none = let P : List RdfTriple → Type 0 = λ z. StagesByEvent d s z Staged d in subst P (sym none) (refl, refl)
 
-stages_by : (d e : Desk) (s : ℕ) (v : Vec Triple Global) (a : Answer) (given : List RdfTriple) → v.items ≡ given → ¬ (given ≡ []) → Responds d (At s (Stage v)) a e → StagesByEvent d s given a e
+stages_by : (d e : Desk) (s : ℕ) (v : Listed) (a : Answer) (given : List RdfTriple) → v.items ≡ given → ¬ (given ≡ []) → Responds d (At s (Stage v)) a e → StagesByEvent d s given a e
 stages_by d e s v a [] is some answers = absurd (some refl)
 stages_by d e s v a (t ∷ ts) is some answers = (Stage v, is, answers)
 
 -- some triples are staged
-pub stages_some : (d e : Desk) (s : ℕ) (v : Vec Triple Global) (a : Answer) → ¬ (v.items ≡ []) → Responds d (At s (Stage v)) a e → StagesByEvent d s v.items a e
+pub stages_some : (d e : Desk) (s : ℕ) (v : Listed) (a : Answer) → ¬ (v.items ≡ []) → Responds d (At s (Stage v)) a e → StagesByEvent d s v.items a e
 stages_some d e s v a some answers = stages_by d e s v a v.items refl some answers
 
 -- the uploads, once a text was fed to a seat

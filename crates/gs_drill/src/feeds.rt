@@ -13,7 +13,7 @@ use crate::uploads::Uploads;
 use gs_core::Store;
 use gs_event::{Action, Answer, Event};
 use gs_model::Refusal;
-use gs_term::Triple;
+use gs_triple_lists::TripleList;
 use gs_upload::Language;
 use std::alloc::{AllocError, Global};
 
@@ -28,7 +28,7 @@ pub fn answer(store: &mut Store, uploads: &mut Uploads, event: Event) -> Answer
 }
 
 /// Stages triples by one event, and by none where there are none.
-fn stage(store: &mut Store, uploads: &mut Uploads, seat: u16, given: Vec<Triple>) -> Answer
+fn stage(store: &mut Store, uploads: &mut Uploads, seat: u16, given: TripleList) -> Answer
     ensures does { MovesDesk store.old uploads.old store.new uploads.new
         (λ d e. StagesByEvent d seat given.items result e) }
     ensures cut { uploads.new.cut ≡ uploads.old.cut }
@@ -92,7 +92,7 @@ pub fn give_up(store: &mut Store, uploads: &mut Uploads, seat: u16, fault: Reply
 }
 
 /// Stages the last triples of a seat's upload, and commits it.
-fn complete(store: &mut Store, uploads: &mut Uploads, seat: u16, given: Vec<Triple>) -> Reply
+fn complete(store: &mut Store, uploads: &mut Uploads, seat: u16, given: TripleList) -> Reply
     ensures does { MovesDesk store.old uploads.old store.new uploads.new
         (λ d e. Completes given.items d seat (reply_text result) e) }
     ensures cut { uploads.new.cut ≡ uploads.old.cut }

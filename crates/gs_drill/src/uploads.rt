@@ -9,7 +9,7 @@ ghost use Rattle.gs_feeding.specs.SeatTexts.{FeedsText, first_context, opened_by
 
 use gs_event::{Action, Answer, Event};
 use gs_feeding::{Opening, SeatText};
-use gs_term::Triple;
+use gs_triple_lists::TripleList;
 use gs_upload::Language;
 use std::alloc::{AllocError, Global};
 use std::mem;
@@ -187,14 +187,14 @@ impl Uploads {
         held: SeatText,
         language: Language,
         text: &[u8],
-    ) -> Result<(SeatText, Vec<Triple>), AllocError>
+    ) -> Result<(SeatText, TripleList), AllocError>
         ensures { IfOk result (λ p. (o : AnOpening)
             → slice_get self.now.openings.items seat ≡ Some (Some o)
             → FeedsText self.now.cut (first_context language o) held text.now p.1.items p.0) }
     {
         match self.openings.get(usize::from(seat)) {
             Some(Some(opening)) => held.feed(alloc, language, opening, text, self.cut),
-            _ => Ok((held, Vec::new(alloc))),
+            _ => Ok((held, TripleList::new(alloc))),
         }
     }
 
@@ -205,7 +205,7 @@ impl Uploads {
         seat: u16,
         language: Language,
         text: &[u8],
-    ) -> Result<Vec<Triple>, AllocError>
+    ) -> Result<TripleList, AllocError>
         ensures given { IfOk result (λ given. FeedsAt self.old.cut language seat text.now
             self.old.openings.items self.old.texts.items self.new.texts.items given.items) }
         ensures openings { IfOk result (λ given. self.new.openings.items ≡ self.old.openings.items) }
@@ -220,7 +220,7 @@ impl Uploads {
     }
 
     /// The text that was fed to a seat ends: what that gives, which is nothing where it has a fault.
-    pub fn finish(&mut self, alloc: Global, seat: u16) -> Result<Option<Vec<Triple>>, AllocError>
+    pub fn finish(&mut self, alloc: Global, seat: u16) -> Result<Option<TripleList>, AllocError>
         ensures given { IfOk result (λ given. SeatTextEnds seat self.old.texts.items self.new.texts.items
             (option_map (λ ts. ts.items) given)) }
         ensures openings { IfOk result (λ given. self.new.openings.items ≡ self.old.openings.items) }

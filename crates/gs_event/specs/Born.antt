@@ -45,12 +45,12 @@ abbrev pub GraphBirths : Type 0
 GraphBirths = Target → List ℕ
 
 -- each graph has the births that it had
-abbrev pub GraphsStay : GraphBirths → GraphBirths → Type 0
-GraphsStay old new = (u : Target) → AreSameBirths (old u) (new u)
+abbrev pub GraphBirthsStay : GraphBirths → GraphBirths → Type 0
+GraphBirthsStay old new = (u : Target) → AreSameBirths (old u) (new u)
 
 -- each graph but this one
-abbrev pub OthersStay : Target → GraphBirths → GraphBirths → Type 0
-OthersStay t old new = (u : Target) → u ≢ t → AreSameBirths (old u) (new u)
+abbrev pub OtherBirthsStay : Target → GraphBirths → GraphBirths → Type 0
+OtherBirthsStay t old new = (u : Target) → u ≢ t → AreSameBirths (old u) (new u)
 
 -- The births of the graphs and of the seat's upload, before an action and after it, and the waste of nodes before and after.
 pub record Bearing : Type 0 where
@@ -62,47 +62,47 @@ pub record Bearing : Type 0 where
   pub waste_then : List Lifetime
 
 -- no birth changes
-abbrev pub NoneBorn : Bearing → Type 0
-NoneBorn b = GraphsStay b.graphs b.graphs_then × AreSameBirths b.own b.own_then
+abbrev pub BirthsStay : Bearing → Type 0
+BirthsStay b = GraphBirthsStay b.graphs b.graphs_then × AreSameBirths b.own b.own_then
 
 -- nodes of the upload are made
 abbrev pub StageBears : ℕ → Bearing → Type 0
-StageBears commit b = GraphsStay b.graphs b.graphs_then × Renews commit b.own b.own_then [] []
+StageBears commit b = GraphBirthsStay b.graphs b.graphs_then × Renews commit b.own b.own_then [] []
 
 -- nodes of the graph of t are made and taken out
 abbrev pub GraphBears : ℕ → Target → Bearing → Type 0
-GraphBears commit t b = OthersStay t b.graphs b.graphs_then × Renews commit (b.graphs t) (b.graphs_then t) b.waste b.waste_then
+GraphBears commit t b = OtherBirthsStay t b.graphs b.graphs_then × Renews commit (b.graphs t) (b.graphs_then t) b.waste b.waste_then
 
 -- the nodes of the upload become those of the graph of t, and those that this had are taken out
 abbrev pub Hands : ℕ → Target → Bearing → Type 0
-Hands commit t b = OthersStay t b.graphs b.graphs_then × AreSameBirths b.own (b.graphs_then t) × Leave commit (b.graphs t) b.waste b.waste_then
+Hands commit t b = OtherBirthsStay t b.graphs b.graphs_then × AreSameBirths b.own (b.graphs_then t) × Leave commit (b.graphs t) b.waste b.waste_then
 
 -- what the commit of an upload makes of them, by its kind and whether it took effect; the upload is no more
 abbrev pub UploadBears : Totals → UploadKind → ℕ → Bool → Bearing → Type 0
 UploadBears v (Put t) r true b = Hands v.commit t b × (b.own_then ≡ [])
 UploadBears v (Post t) r true b = GraphBears v.commit t b × (b.own_then ≡ [])
 UploadBears v New r true b = Hands v.commit (Named (new_name v.setting.base v.dataset r)) b × (b.own_then ≡ [])
-UploadBears v k r false b = GraphsStay b.graphs b.graphs_then × (b.own_then ≡ [])
+UploadBears v k r false b = GraphBirthsStay b.graphs b.graphs_then × (b.own_then ≡ [])
 
 -- what the operations of a patch make of them
 abbrev pub PatchBears : ℕ → Target → Bool → Bearing → Type 0
 PatchBears commit t true b = GraphBears commit t b × AreSameBirths b.own b.own_then
-PatchBears commit t false b = NoneBorn b
+PatchBears commit t false b = BirthsStay b
 
 -- and a Delete
 abbrev pub DeleteBears : ℕ → Target → Bool → Bearing → Type 0
-DeleteBears commit t true b = OthersStay t b.graphs b.graphs_then × (b.graphs_then t ≡ []) × Leave commit (b.graphs t) b.waste b.waste_then × AreSameBirths b.own b.own_then
-DeleteBears commit t false b = NoneBorn b
+DeleteBears commit t true b = OtherBirthsStay t b.graphs b.graphs_then × (b.graphs_then t ≡ []) × Leave commit (b.graphs t) b.waste b.waste_then × AreSameBirths b.own b.own_then
+DeleteBears commit t false b = BirthsStay b
 
 -- What an action makes of them. The commit of a POST that is refused makes its upload again.
 abbrev pub Bears : Totals → SeatView → Action → Answer → Bearing → Type 0
 Bears v (Writing k r g since) (Stage ts) Staged b = StageBears v.commit b
 Bears v (Writing k r g since) Commit (Status s name number) b = UploadBears v k r (is_success s) b
 Bears v (Writing (Post t) r g since) Commit (Refused e) b = StageBears v.commit b
-Bears v (Writing k r g since) Cancel Cancelled b = GraphsStay b.graphs b.graphs_then × (b.own_then ≡ [])
+Bears v (Writing k r g since) Cancel Cancelled b = GraphBirthsStay b.graphs b.graphs_then × (b.own_then ≡ [])
 Bears v (Patching t r since) (CommitPatch ops) (Status s name number) b = PatchBears v.commit t (is_success s) b
 Bears v p (Delete t since) (Status s name number) b = DeleteBears v.commit t (is_success s) b
-Bears v p action a b = NoneBorn b
+Bears v p action a b = BirthsStay b
 
 -- how many triples a seat has staged
 abbrev pub staged_at : {R : Type 0} → Phase R → ℕ
@@ -118,5 +118,5 @@ pub record HasFewBirths (s : Shown) : Type 0 where
 
 -- each graph and each upload has the births that it had
 pub record HasSameBirths (old new : Shown) : Type 0 where
-  pub graphs : GraphsStay (births_at old.births) (births_at new.births)
+  pub graphs : GraphBirthsStay (births_at old.births) (births_at new.births)
   pub staged : (k : ℕ) → AreSameBirths (staged_births old.births k) (staged_births new.births k)

@@ -1,6 +1,7 @@
 //! What a store is asked.
 use crate::updates::Op;
-use gs_term::{Target, Triple};
+use gs_term::Target;
+use gs_triple_lists::TripleList;
 
 /// What an upload will do to its target when it is committed.
 #[derive(Clone, Debug, Drop)]
@@ -31,7 +32,7 @@ pub enum Action {
     /// Opens a patch of a graph, with such a condition.
     OpenPatch(Target, Option<u64>),
     /// Adds triples to the seat's upload.
-    Stage(Vec<Triple>),
+    Stage(TripleList),
     /// Makes the seat's upload take effect, whole.
     Commit,
     /// Makes these operations take effect on the graph of the seat's patch, whole, in their order

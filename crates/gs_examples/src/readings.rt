@@ -4,6 +4,7 @@ use gs_model::Refusal;
 use gs_ntwrite::line;
 use gs_term::Triple;
 use gs_test_readings::feed;
+use gs_triple_lists::TripleList;
 use gs_turtle::TurtleReader;
 use std::alloc::Global;
 
@@ -13,7 +14,7 @@ fn read(
     base: &str,
     text: &[u8],
     size: usize,
-    triples: &mut Vec<Triple>,
+    triples: &mut TripleList,
 ) -> Result<(), Refusal> {
     if !is_absolute(base) {
         return Err(Refusal::Syntax(0));
@@ -43,7 +44,10 @@ pub fn lines_as_read(
     text: &[u8],
     size: usize,
 ) -> Result<Vec<Vec<u8>>, Refusal> {
-    let mut triples = Vec::new(alloc);
-    read(alloc, base, text, size, &mut triples)?;
-    lines_of(alloc, triples.as_slice())
+    let mut list = TripleList::new(alloc);
+    let read = read(alloc, base, text, size, &mut list);
+    let triples = list.to_vec(alloc);
+    drop(list);
+    read?;
+    lines_of(alloc, triples?.as_slice())
 }

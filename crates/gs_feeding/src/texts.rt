@@ -4,7 +4,7 @@ ghost use Rattle.gs_feeding.specs.Receiving.{Fed};
 ghost use Rattle.gs_feeding.specs.SeatTexts.{WasFed, FeedsText, GoesOnText, EndsText, FedInPieces, Ended, first_context, fed_language};
 
 use crate::openings::Opening;
-use gs_term::Triple;
+use gs_triple_lists::TripleList;
 use gs_upload::{Language, Reading, TextReader};
 use std::alloc::{AllocError, Global};
 
@@ -27,13 +27,13 @@ fn feed_reading(
     reading: &mut Reading<TextReader>,
     text: &[u8],
     cut: u64,
-) -> Result<Vec<Triple>, AllocError>
+) -> Result<TripleList, AllocError>
     ensures { IfOk result (λ given. FedInPieces reading.old reading.new text.now cut given.items) }
 {
-    let mut triples = Vec::new(alloc);
+    let mut triples = TripleList::new(alloc);
     reading.feed_pieces(text, cut as usize, &mut triples)?;
     if reading.has_fault() {
-        return Ok(Vec::new(alloc));
+        return Ok(TripleList::new(alloc));
     }
     Ok(triples)
 }
@@ -43,10 +43,10 @@ fn finish_reading(
     alloc: Global,
     language: Language,
     reading: Reading<TextReader>,
-) -> Result<(SeatText, Option<Vec<Triple>>), AllocError>
+) -> Result<(SeatText, Option<TripleList>), AllocError>
     ensures { IfOk result (λ p. Ended language reading p.0 (option_map (λ ts. ts.items) p.1)) }
 {
-    let mut triples = Vec::new(alloc);
+    let mut triples = TripleList::new(alloc);
     match reading.finish(&mut triples)? {
         None => Ok((SeatText::Finished(language), Some(triples))),
         Some(_) => Ok((SeatText::Faulted(language), None)),
@@ -69,7 +69,7 @@ impl SeatText {
         alloc: Global,
         text: &[u8],
         cut: u64,
-    ) -> Result<(SeatText, Vec<Triple>), AllocError>
+    ) -> Result<(SeatText, TripleList), AllocError>
         ensures { IfOk result (λ p. GoesOnText cut self text.now p.1.items p.0) }
     {
         match self {
@@ -82,7 +82,7 @@ impl SeatText {
                     }
                 }
             }
-            other => Ok((other, Vec::new(alloc))),
+            other => Ok((other, TripleList::new(alloc))),
         }
     }
 
@@ -94,7 +94,7 @@ impl SeatText {
         opening: &Opening,
         text: &[u8],
         cut: u64,
-    ) -> Result<(SeatText, Vec<Triple>), AllocError>
+    ) -> Result<(SeatText, TripleList), AllocError>
         ensures { IfOk result (λ p. FeedsText cut (first_context language opening.now) self text.now
             p.1.items p.0) }
     {
@@ -105,15 +105,15 @@ impl SeatText {
     }
 
     /// The text ends: what that gives, which is nothing where it has a fault, and where it then stands.
-    pub fn finish(self, alloc: Global) -> Result<(SeatText, Option<Vec<Triple>>), AllocError>
+    pub fn finish(self, alloc: Global) -> Result<(SeatText, Option<TripleList>), AllocError>
         ensures { IfOk result (λ p. EndsText self (option_map (λ ts. ts.items) p.1) p.0) }
     {
         match self {
             SeatText::Fed(language, reading) => finish_reading(alloc, language, reading),
-            SeatText::Unfed => Ok((SeatText::Unfed, Some(Vec::new(alloc)))),
+            SeatText::Unfed => Ok((SeatText::Unfed, Some(TripleList::new(alloc)))),
             SeatText::Faulted(language) => Ok((SeatText::Faulted(language), None)),
             SeatText::Finished(language) => {
-                Ok((SeatText::Finished(language), Some(Vec::new(alloc))))
+                Ok((SeatText::Finished(language), Some(TripleList::new(alloc))))
             }
         }
     }

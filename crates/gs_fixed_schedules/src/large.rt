@@ -4,6 +4,7 @@ use gs_drawn_events::{Place, made, target};
 use gs_event::{Action, Event, Scope, UploadKind};
 use gs_model::Refusal;
 use gs_term::{TermText, Triple};
+use gs_triple_lists::TripleList;
 use gs_version_models::MOST_FOR_TRIPLE;
 use std::alloc::{AllocError, Global};
 
@@ -73,12 +74,12 @@ fn words(
     Ok(text)
 }
 
-fn list(alloc: Global, first: u64) -> Result<Vec<Triple>, Refusal> {
+fn list(alloc: Global, first: u64) -> Result<TripleList, Refusal> {
     let mut triples = Vec::new(alloc);
     for place in 0..LIST {
         triples.push(triple(alloc, first.saturating_add(place.saturating_mul(2)))?)?;
     }
-    Ok(triples)
+    Ok(TripleList::of(alloc, triples)?)
 }
 
 /// The same, with so many nodes or records more.
@@ -157,7 +158,7 @@ fn push_one(alloc: Global, lines: &mut Lines) -> Result<(), Refusal> {
     lines.push("Open", Event::Seat(0, open), "opened 2", opened)?;
     let mut one = Vec::new(alloc);
     one.push(triple(alloc, FIRST.saturating_add(MANY.saturating_mul(2)))?)?;
-    let stage = Event::Seat(0, Action::Stage(one));
+    let stage = Event::Seat(0, Action::Stage(TripleList::of(alloc, one)?));
     lines.push("Stage", stage, "staged", with_more(opened, 1))?;
     let commit = Event::Seat(0, Action::Commit);
     lines.push("Commit", commit, "status 204, commit 2", with_one())?;

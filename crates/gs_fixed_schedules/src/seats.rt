@@ -4,6 +4,7 @@ use crate::lines::{Bounds, Lines};
 use gs_drawn_events::{Place, target};
 use gs_event::{Action, Event, Scope, UploadKind};
 use gs_model::Refusal;
+use gs_triple_lists::TripleList;
 use std::alloc::Global;
 
 /// How many seats there are: the most that a store has.
@@ -39,7 +40,8 @@ fn commit_of(seat: u16) -> u64 {
 fn stage(alloc: Global, seat: u16, number: u64) -> Result<Event, Refusal> {
     let mut one = Vec::new(alloc);
     one.push(triple(alloc, number)?)?;
-    Ok(Event::Seat(seat, Action::Stage(one)))
+    let list = TripleList::of(alloc, one)?;
+    Ok(Event::Seat(seat, Action::Stage(list)))
 }
 
 /// Seat 0 puts the triple of the default graph.

@@ -2,6 +2,7 @@
 use gs_event::{Action, Event, Scope, UploadKind};
 use gs_model::Refusal;
 use gs_term::{Target, TermText, Triple};
+use gs_triple_lists::TripleList;
 use std::alloc::Global;
 
 /// What a seat does to the default graph, or asks of all graphs.
@@ -22,7 +23,7 @@ pub enum Step {
 }
 
 /// Two triples.
-fn triples(alloc: Global) -> Result<Vec<Triple>, Refusal> {
+fn triples(alloc: Global) -> Result<TripleList, Refusal> {
     let mut list = Vec::new(alloc);
     for number in 0..2 {
         let subject = TermText::iri(alloc, "http://e/s")?;
@@ -33,7 +34,7 @@ fn triples(alloc: Global) -> Result<Vec<Triple>, Refusal> {
         }
         list.push(Triple::new(subject, predicate, object))?;
     }
-    Ok(list)
+    Ok(TripleList::of(alloc, list)?)
 }
 
 /// This step of this seat. Two triples are staged, a patch has no operations, and a piece has one line.

@@ -25,8 +25,8 @@ fn operate(graph: &mut SortedGraph, alloc: Global, operation: &Op) -> Result<(),
     ensures { OnOk result (graph.new ≡ operated graph.old operation.now) }
 {
     match operation {
-        Op::Insert(triples) => graph.add_all(alloc, triples.as_slice()),
-        Op::DeleteData(triples) => graph.remove_all(alloc, triples.as_slice()),
+        Op::Insert(triples) => graph.add_all(alloc, triples.to_vec(alloc)?.as_slice()),
+        Op::DeleteData(triples) => graph.remove_all(alloc, triples.to_vec(alloc)?.as_slice()),
         Op::DeleteWhere(patterns) => {
             let gone = instances(alloc, graph, patterns.as_slice())?;
             graph.remove_all(alloc, gone.as_slice())

@@ -131,7 +131,10 @@ impl Graph {
     /// Takes an operation.
     fn take(&mut self, alloc: Global, op: &Op) -> Result<(), Refusal> {
         match op {
-            Op::Insert(triples) => add_all(alloc, &mut self.lines, triples.as_slice()),
+            Op::Insert(list) => {
+                let triples = list.to_vec(alloc)?;
+                add_all(alloc, &mut self.lines, triples.as_slice())
+            }
             Op::DeleteWhere(patterns) => {
                 let predicate = predicate_of(patterns.as_slice());
                 self.lines = without(alloc, &mut self.lines, predicate)?;

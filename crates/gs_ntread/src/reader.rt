@@ -11,7 +11,7 @@ use gs_blank::Numbering;
 use gs_body::BodyReader;
 use gs_machine::{BAD, Decoder};
 use gs_model::{Fault, Refusal};
-use gs_term::Triple;
+use gs_triple_lists::TripleList;
 use std::alloc::{AllocError, Global};
 
 /// Reads a body of N-Triples (25 February 2014) that comes in any pieces.
@@ -77,7 +77,7 @@ impl NTriplesReader {
     }
 
     /// A triple is complete.
-    fn give(&mut self, parts: Parts, triples: &mut Vec<Triple>) -> Result<(), Refusal>
+    fn give(&mut self, parts: Parts, triples: &mut TripleList) -> Result<(), Refusal>
         ensures ok { OnOk result (GivesParts self.old self.new triples.old.items triples.new.items parts) }
         ensures err { OnErr result (triples.new.items ≡ triples.old.items) }
         ensures request { self.new.request ≡ self.old.request }
@@ -91,7 +91,7 @@ impl NTriplesReader {
     }
 
     /// The next character.
-    fn character(&mut self, c: u32, triples: &mut Vec<Triple>) -> Result<(), Refusal>
+    fn character(&mut self, c: u32, triples: &mut TripleList) -> Result<(), Refusal>
         ensures ok { OnOk result (TakesChar self.old self.new triples.old.items triples.new.items c) }
         ensures err { OnErr result (triples.new.items ≡ triples.old.items) }
         ensures request { self.new.request ≡ self.old.request }
@@ -105,7 +105,7 @@ impl NTriplesReader {
     }
 
     /// The next byte.
-    fn step(&mut self, byte: u8, triples: &mut Vec<Triple>) -> Result<(), Refusal>
+    fn step(&mut self, byte: u8, triples: &mut TripleList) -> Result<(), Refusal>
         ensures ok { OnOk result (TakesByte self.old self.new triples.old.items triples.new.items byte) }
         ensures err { OnErr result (triples.new.items ≡ triples.old.items) }
         ensures request { self.new.request ≡ self.old.request }
@@ -157,7 +157,7 @@ impl NTriplesReader {
     }
 
     /// What stands at the front of a piece: a run, an object with its dot, or one byte.
-    fn take_some(&mut self, piece: &[u8], triples: &mut Vec<Triple>) -> Result<usize, Refusal>
+    fn take_some(&mut self, piece: &[u8], triples: &mut TripleList) -> Result<usize, Refusal>
         requires { 0 < length piece.now }
         ensures bound { IfOk result (λ n. (0 < n) × (n ≤ length piece.now)) }
         ensures ok { TakesFront self.old self.new triples.old.items triples.new.items piece.now result }
@@ -182,7 +182,7 @@ impl NTriplesReader {
     }
 
     /// The next bytes.
-    fn take_all(&mut self, piece: &[u8], triples: &mut Vec<Triple>) -> Result<(), Refusal>
+    fn take_all(&mut self, piece: &[u8], triples: &mut TripleList) -> Result<(), Refusal>
         ensures ok { OnOk result (TakesEach self.old self.new triples.old.items triples.new.items piece.now) }
         ensures err { OnErr result (Begins triples.new.items triples.old.items) }
         ensures request { self.new.request ≡ self.old.request }
@@ -219,7 +219,7 @@ impl NTriplesReader {
     }
 
     /// The next piece, and its fault.
-    fn take_piece(&mut self, piece: &[u8], triples: &mut Vec<Triple>) -> Result<(), Refusal>
+    fn take_piece(&mut self, piece: &[u8], triples: &mut TripleList) -> Result<(), Refusal>
         ensures ok { OnOk result (TakesEach self.old self.new triples.old.items triples.new.items piece.now) }
         ensures err { OnErr result (Begins triples.new.items triples.old.items) }
         ensures fault { IfErr result (λ e. FaultsAfter self.old piece.now e) }
@@ -246,7 +246,7 @@ impl NTriplesReader {
     }
 
     /// The text ends between two characters.
-    fn end_between(&mut self, triples: &mut Vec<Triple>) -> Result<(), Refusal>
+    fn end_between(&mut self, triples: &mut TripleList) -> Result<(), Refusal>
         ensures ok { OnOk result (EndsWell triples.old.items triples.new.items (text_end self.old)) }
         ensures err { OnErr result (Begins triples.new.items triples.old.items) }
         ensures reported { IfErr result (λ e. e ≢ Refusal.Closed) }
@@ -263,7 +263,7 @@ impl NTriplesReader {
     }
 
     /// The text ends within a character.
-    fn end_within(&mut self, triples: &mut Vec<Triple>) -> Result<(), Refusal>
+    fn end_within(&mut self, triples: &mut TripleList) -> Result<(), Refusal>
         requires { is_ready_of self.old.decoder ≡ false }
         ensures failed { IsErr result }
         ensures err { OnErr result (Begins triples.new.items triples.old.items) }
@@ -282,7 +282,7 @@ impl NTriplesReader {
     }
 
     /// The text ends.
-    fn take_end(&mut self, triples: &mut Vec<Triple>) -> Result<(), Refusal>
+    fn take_end(&mut self, triples: &mut TripleList) -> Result<(), Refusal>
         ensures ok { OnOk result (EndsWell triples.old.items triples.new.items (body_end self.old)) }
         ensures err { OnErr result (Begins triples.new.items triples.old.items) }
         ensures reported { IfErr result (λ e. e ≢ Refusal.Closed) }
@@ -306,11 +306,11 @@ impl BodyReader for NTriplesReader {
 
     ghost is_closed = { λ r. r.is_closed };
 
-    fn feed(&mut self, piece: &[u8], triples: &mut Vec<Triple>) -> Result<(), Refusal> {
+    fn feed(&mut self, piece: &[u8], triples: &mut TripleList) -> Result<(), Refusal> {
         if self.is_closed {
             return Err(Refusal::Closed);
         }
-        let before = triples.as_slice().len();
+        let before = triples.len();
         match self.take_piece(piece, triples) {
             Ok(()) => Ok(()),
             Err(refusal) => {
@@ -321,11 +321,11 @@ impl BodyReader for NTriplesReader {
         }
     }
 
-    fn finish(&mut self, triples: &mut Vec<Triple>) -> Result<(), Refusal> {
+    fn finish(&mut self, triples: &mut TripleList) -> Result<(), Refusal> {
         if self.is_closed {
             return Err(Refusal::Closed);
         }
-        let before = triples.as_slice().len();
+        let before = triples.len();
         let ended = self.take_end(triples);
         self.is_closed = true;
         match ended {

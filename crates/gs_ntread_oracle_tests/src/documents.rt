@@ -3,6 +3,7 @@ use crate::plain::{Meaning, meaning_of};
 use gs_model::Refusal;
 use gs_ntread::NTriplesReader;
 use gs_test_readings::{SIZES, feed, lines_of};
+use gs_triple_lists::TripleList;
 use std::alloc::{AllocError, Global};
 use std::test::Fail;
 
@@ -63,14 +64,15 @@ const WHOLE: &str =
 /// fault is.
 fn agrees(alloc: Global, document: &str, size: usize, want: &Meaning) -> Result<bool, Refusal> {
     let mut reader = NTriplesReader::new(alloc, 1);
-    let mut triples = Vec::new(alloc);
+    let mut triples = TripleList::new(alloc);
     let reported = feed(&mut reader, document.as_bytes(), size, &mut triples);
+    let lines = lines_of(alloc, &triples);
+    drop(triples);
     if let Some(at) = want.fault {
         return Ok(reported == Err(Refusal::Syntax(at)));
     }
     reported?;
-    let lines = lines_of(alloc, triples.as_slice())?;
-    Ok(lines.as_slice() == want.lines.as_bytes())
+    Ok(lines?.as_slice() == want.lines.as_bytes())
 }
 
 /// The first length of pieces in which the reader does not say of a document what the plain reader

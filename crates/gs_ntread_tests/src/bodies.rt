@@ -4,6 +4,7 @@ use gs_model::Refusal;
 use gs_ntread::{NTriplesReader, read_by_characters};
 use gs_ntwrite::line;
 use gs_term::Triple;
+use gs_triple_lists::TripleList;
 use std::alloc::{AllocError, Global};
 use std::test::Fail;
 
@@ -11,7 +12,7 @@ use std::test::Fail;
 fn read(
     reader: &mut NTriplesReader,
     pieces: &[&[u8]],
-    triples: &mut Vec<Triple>,
+    triples: &mut TripleList,
 ) -> Result<(), Refusal> {
     for piece in pieces {
         reader.feed(piece, triples)?;
@@ -19,26 +20,31 @@ fn read(
     reader.finish(triples)
 }
 
-/// Adds the lines of triples, in their order.
-fn push_lines(triples: &[Triple], lines: &mut Vec<u8>) -> Result<(), Refusal> {
+/// The lines of triples, in their order.
+fn each_line(alloc: Global, triples: &[Triple]) -> Result<Vec<u8>, Refusal> {
+    let mut lines = Vec::new(alloc);
     for triple in triples {
-        line(triple, lines)?;
+        line(triple, &mut lines)?;
     }
-    Ok(())
+    Ok(lines)
+}
+
+/// The lines of a list's triples, in their order.
+fn lines_in(alloc: Global, triples: &TripleList) -> Result<Vec<u8>, Refusal> {
+    let triples = triples.to_vec(alloc)?;
+    each_line(alloc, triples.as_slice())
 }
 
 /// The lines of the triples of a text of request 3 that comes in these pieces, in their order.
 fn lines_of(alloc: Global, pieces: &[&[u8]]) -> Result<Vec<u8>, Refusal> {
     let mut reader = NTriplesReader::new(alloc, 3);
-    let mut triples = Vec::new(alloc);
+    let mut triples = TripleList::new(alloc);
     let read = read(&mut reader, pieces, &mut triples);
     drop(reader);
-    let mut lines = Vec::new(alloc);
-    let pushed = push_lines(triples.as_slice(), &mut lines);
+    let lines = lines_in(alloc, &triples);
     drop(triples);
     read?;
-    pushed?;
-    Ok(lines)
+    lines
 }
 
 #[test]
@@ -57,7 +63,7 @@ fn a_body_in_two_pieces_gives_its_triples(rt: HostRuntime) -> Result<(), Fail> {
 /// Whether a text is refused so as it is fed, and its end then since the reader is closed.
 fn is_refused(alloc: Global, text: &[u8], refusal: Refusal) -> bool {
     let mut reader = NTriplesReader::new(alloc, 1);
-    let mut triples = Vec::new(alloc);
+    let mut triples = TripleList::new(alloc);
     let fed = reader.feed(text, &mut triples);
     let ended = reader.finish(&mut triples);
     drop(triples);
@@ -74,7 +80,7 @@ fn a_relative_iri_is_a_fault(rt: HostRuntime) {
 /// The fault of a text in parts.
 fn fault_of(alloc: Global, parts: &[&[u8]]) -> Option<Refusal> {
     let mut reader = NTriplesReader::new(alloc, 1);
-    let mut triples = Vec::new(alloc);
+    let mut triples = TripleList::new(alloc);
     let read = read(&mut reader, parts, &mut triples);
     drop(triples);
     drop(reader);
@@ -85,7 +91,7 @@ fn fault_of(alloc: Global, parts: &[&[u8]]) -> Option<Refusal> {
 fn read_bytes(
     reader: &mut NTriplesReader,
     parts: &[&[u8]],
-    triples: &mut Vec<Triple>,
+    triples: &mut TripleList,
 ) -> Result<(), Refusal> {
     for part in parts {
         for byte in *part {
@@ -98,7 +104,7 @@ fn read_bytes(
 /// The fault of the text in pieces of one byte.
 fn fault_in_bytes(alloc: Global, parts: &[&[u8]]) -> Option<Refusal> {
     let mut reader = NTriplesReader::new(alloc, 1);
-    let mut triples = Vec::new(alloc);
+    let mut triples = TripleList::new(alloc);
     let read = read_bytes(&mut reader, parts, &mut triples);
     drop(triples);
     drop(reader);
@@ -252,7 +258,7 @@ fn a_byte_order_mark_is_a_fault(rt: HostRuntime) -> Result<(), Fail> {
 /// How many triples are given of a text before it ends.
 fn given(alloc: Global, text: &[u8]) -> Result<usize, Refusal> {
     let mut reader = NTriplesReader::new(alloc, 1);
-    let mut triples = Vec::new(alloc);
+    let mut triples = TripleList::new(alloc);
     let fed = reader.feed(text, &mut triples);
     let count = triples.len();
     drop(triples);

@@ -1,3 +1,2 @@
 pub mod FormedLemmas
-pub mod PlaceLemmas
 pub mod RoomLemmas

@@ -1,13 +1,11 @@
 -- Room for texts and for triples.
-use Rattle.std.proofs.Common.{◌≡◌, ℕ, ◌+◌, ◌*◌, ◌≤◌, List, [], ◌∷◌, length, ap, arith}
+use Rattle.std.proofs.Common.{◌≡◌, ℕ, ◌+◌, ◌*◌, ◌≤◌, List, ◌∷◌, length, ap, arith}
 use Rattle.std.proofs.lemmas.List.Sums.{sum_by-cons}
 use Rattle.gs_model.specs.Terms.{Term, text_of}
 use Rattle.gs_model.specs.Triples.{RdfTriple}
 use Rattle.gs_packed_texts.specs.Texts.{HasRoom}
 use Rattle.gs_packed_texts.specs.declared.texts.PackedTexts.{PackedTexts}
 use Rattle.gs_packed_triples.specs.Room.{triple_bytes, triples_bytes, LeavesRoom}
-use Rattle.gs_packed_triples.specs.Triples.{HasRoomFor}
-use Rattle.gs_packed_triples.specs.declared.triples.PackedTriples.{PackedTriples}
 
 -- how many bytes a term's text has
 abbrev len : Term → ℕ
@@ -62,13 +60,3 @@ pub room_for_text : (p : PackedTexts) (n k : ℕ) (ts : List RdfTriple) (s t : T
 room_for_text p n k ts s t room same texts bytes =
     let long : len s ≡ len t = ap len same in
     room_for_fewer p _ _ 1 (len s) room.room (omega arith) (omega arith)
-
--- room for triples is room for the first of them
-pub room_for_first : (p : PackedTriples) (t : RdfTriple) (ts : List RdfTriple) → HasRoomFor p (t ∷ ts) → HasRoomFor p (t ∷ [])
-room_for_first p t ts room =
-    let whole : triples_bytes (t ∷ ts) ≡ triple_bytes t + triples_bytes ts = sum_by-cons triple_bytes t ts in
-    let one : triples_bytes (t ∷ []) ≡ triple_bytes t + 0 = sum_by-cons triple_bytes t [] in
-    record {
-      texts = room_for_fewer p.texts (3 * length (t ∷ ts)) (triples_bytes (t ∷ ts)) (3 * length (t ∷ [])) (triples_bytes (t ∷ [])) room.texts (omega arith) (omega arith);
-      count = omega (arith, room.count);
-    }

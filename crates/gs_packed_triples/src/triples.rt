@@ -2,6 +2,7 @@
 ghost use Rattle.std.specs.Prelude.{◌≡◌, ◌≤◌, [], ◌∷◌, ◌++◌, length, IfSome};
 ghost use Rattle.std.proofs.Props.{props};
 ghost use Rattle.gs_model.specs.Terms.{text_of};
+ghost use Rattle.gs_triple_lists.specs.Readers.{triple_listed};
 ghost use Rattle.gs_packed_texts.specs.Texts.{texts_of, HasRoom};
 ghost use Rattle.gs_packed_triples.specs.Formed.{triples_unpacked, AreFormed};
 ghost use Rattle.gs_packed_triples.specs.Room.{triple_bytes, triples_bytes, LeavesRoom};
@@ -9,7 +10,8 @@ ghost use Rattle.gs_packed_triples.specs.Props.{IsText-prop};
 
 use crate::readers::UnpackedTriples;
 use gs_packed_texts::PackedTexts;
-use gs_term::{TermText, Triple};
+use gs_term::TermText;
+use gs_triple_lists::{ListedTriple, TripleList};
 use std::alloc::Global;
 
 /// Triples in the order in which they came, with repeats: three texts for each, the subject's first. A
@@ -24,8 +26,8 @@ pub struct PackedTriples {
 }
 
 /// How many bytes the three texts of a triple have.
-fn bytes_of(triple: &Triple) -> usize
-    ensures value { result ≡ triple_bytes triple.now }
+fn bytes_of(triple: ListedTriple) -> usize
+    ensures value { result ≡ triple_bytes (triple_listed triple.entry) }
     ensures few { result ≤ 196_605 }
 {
     triple.subject().as_bytes().len()
@@ -34,11 +36,12 @@ fn bytes_of(triple: &Triple) -> usize
 }
 
 /// How many bytes the texts of a list have, if 64 bits count them.
-fn bytes_of_all(list: &[Triple]) -> Option<usize>
-    ensures { IfSome result (λ n. n ≡ triples_bytes list.now) }
+fn bytes_of_all(list: &TripleList) -> Option<usize>
+    ensures { IfSome result (λ n. n ≡ triples_bytes list.now.items) }
 {
     let mut bytes = 0usize;
-    for triple in list {
+    let mut left = list.triples();
+    while let Some(triple) = left.next() {
         bytes = bytes.checked_add(bytes_of(triple))?;
     }
     Some(bytes)
@@ -76,9 +79,9 @@ impl PackedTriples {
 
     /// Makes room for a list. False where memory is refused, or where 64 bits cannot count the bytes or
     /// the triples.
-    pub fn make_room(&mut self, list: &[Triple]) -> bool
+    pub fn make_room(&mut self, list: &TripleList) -> bool
         ensures triples { packed_triples self.new ≡ packed_triples self.old }
-        ensures room { result ≡ true → HasRoomFor self.new list.now }
+        ensures room { result ≡ true → HasRoomFor self.new list.now.items }
     {
         let Some(bytes) = bytes_of_all(list) else {
             return false;
@@ -93,10 +96,10 @@ impl PackedTriples {
     }
 
     /// Adds a triple, for which there is room.
-    fn add_one(&mut self, triple: &Triple)
-        requires { HasRoomFor self.old (triple.now ∷ []) }
-        ensures triples { packed_triples self.new ≡ packed_triples self.old ++ triple.now ∷ [] }
-        ensures room { LeavesRoomFor self.old triple.now self.new }
+    fn add_one(&mut self, triple: ListedTriple)
+        requires { HasRoomFor self.old (triple_listed triple ∷ []) }
+        ensures triples { packed_triples self.new ≡ packed_triples self.old ++ triple_listed triple.entry ∷ [] }
+        ensures room { LeavesRoomFor self.old (triple_listed triple.entry) self.new }
     {
         // For the proof that what is packed stays texts of triples.
         triple.known();
@@ -107,11 +110,12 @@ impl PackedTriples {
     }
 
     /// Adds a list, for which there is room. Takes no memory. Linear in the bytes of its terms.
-    pub fn add(&mut self, list: &[Triple])
-        requires { HasRoomFor self.old list.now }
-        ensures { packed_triples self.new ≡ packed_triples self.old ++ list.now }
+    pub fn add(&mut self, list: &TripleList)
+        requires { HasRoomFor self.old list.now.items }
+        ensures { packed_triples self.new ≡ packed_triples self.old ++ list.now.items }
     {
-        for triple in list {
+        let mut left = list.triples();
+        while let Some(triple) = left.next() {
             self.add_one(triple);
         }
     }

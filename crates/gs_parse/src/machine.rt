@@ -6,7 +6,7 @@ ghost use Rattle.gs_blank.specs.Numbers.{no_numbers};
 use crate::parser::Parser;
 use crate::places::Place;
 use gs_lex::BorrowedToken;
-use gs_term::Triple;
+use gs_triple_lists::TripleList;
 use gs_triple_parser::{Scope, TripleParser, Turn};
 use gs_triple_values::{Allowed, Symbol, symbol_of_borrowed};
 use std::alloc::{AllocError, Global};
@@ -43,7 +43,7 @@ impl Parser {
 
     /// The symbol after the triples of a statement, which is to be their dot.
     #[tactic(auto, using(crate::proofs::StepLemmas::given_stated))]
-    fn conclude(&mut self, symbol: Symbol, triples: &mut Vec<Triple>) -> Result<(), AllocError>
+    fn conclude(&mut self, symbol: Symbol, triples: &mut TripleList) -> Result<(), AllocError>
         ensures moves { OnOk result (MovesBy self.old self.new (transition_after self.old symbol.entry)) }
         ensures given { GivesTriples result triples.old.items triples.new.items
             (transition_after self.old symbol.entry) }
@@ -52,14 +52,14 @@ impl Parser {
             self.lose();
             return Ok(());
         };
-        self.triples.append_to(triples)?;
+        self.triples.list_in(triples)?;
         self.between(end);
         Ok(())
     }
 
     /// A symbol within the triples of a statement, or after them.
     #[tactic(auto, unfolding(gs_document::specs::Machine::step))]
-    fn within(&mut self, symbol: Symbol, triples: &mut Vec<Triple>) -> Result<(), AllocError>
+    fn within(&mut self, symbol: Symbol, triples: &mut TripleList) -> Result<(), AllocError>
         ensures moves { OnOk result (MovesBy self.old self.new (transition_within self.old symbol.entry)) }
         ensures given { GivesTriples result triples.old.items triples.new.items
             (transition_within self.old symbol.entry) }
@@ -75,7 +75,7 @@ impl Parser {
 
     /// One symbol more.
     #[tactic(auto, using(crate::proofs::StepLemmas::quiet_moves, crate::proofs::StepLemmas::quiet_given), unfolding(gs_document::specs::Machine::step, gs_triples::specs::Machine::step))]
-    fn take(&mut self, symbol: Symbol, triples: &mut Vec<Triple>) -> Result<(), AllocError>
+    fn take(&mut self, symbol: Symbol, triples: &mut TripleList) -> Result<(), AllocError>
         ensures moves { OnOk result (MovesBy self.old self.new (transition_here self.old symbol.entry)) }
         ensures given { GivesTriples result triples.old.items triples.new.items
             (transition_here self.old symbol.entry) }
@@ -98,7 +98,7 @@ impl Parser {
     pub fn step(
         &mut self,
         token: BorrowedToken<'_>,
-        triples: &mut Vec<Triple>,
+        triples: &mut TripleList,
     ) -> Result<(), AllocError>
         ensures state { OnOk result (state_of self.new
             ≡ (machine.step (state_of self.old) (symbol_of (lexeme_of_borrowed token.entry))).0) }

@@ -4,6 +4,7 @@ use gs_model::{Fault, Refusal};
 use gs_ntwrite::line;
 use gs_parse::Parser;
 use gs_term::Triple;
+use gs_triple_lists::TripleList;
 use std::alloc::{AllocError, Global};
 use std::test::Fail;
 
@@ -37,7 +38,7 @@ struct Parsed {
 fn step_all(
     parser: &mut Parser,
     tokens: &[Token],
-    triples: &mut Vec<Triple>,
+    triples: &mut TripleList,
 ) -> Result<(), AllocError> {
     for token in tokens {
         parser.step(token.as_borrowed(), triples)?;
@@ -54,11 +55,17 @@ fn lines_of(alloc: Global, triples: &[Triple]) -> Result<Vec<u8>, Refusal> {
     Ok(lines)
 }
 
+/// The lines of a list's triples.
+fn lines_in(alloc: Global, triples: &TripleList) -> Result<Vec<u8>, Refusal> {
+    let triples = triples.to_vec(alloc)?;
+    lines_of(alloc, triples.as_slice())
+}
+
 /// What a parser gives of tokens.
 fn parse(alloc: Global, parser: &mut Parser, tokens: &[Token]) -> Result<Parsed, Refusal> {
-    let mut triples = Vec::new(alloc);
+    let mut triples = TripleList::new(alloc);
     let stepped = step_all(parser, tokens, &mut triples);
-    let lines = lines_of(alloc, triples.as_slice());
+    let lines = lines_in(alloc, &triples);
     drop(triples);
     stepped?;
     let (last, fault) = (parser.last, parser.fault());

@@ -1,5 +1,5 @@
 -- Keys of those of some triples whose terms have numbers.
-use Rattle.std.proofs.Common.{◌≡◌, Bool, true, false, ◌||◌, List, [], ◌∷◌, ◌++◌, map, Some, refl, sym, ap, ◌∙◌, inl, inr}
+use Rattle.std.proofs.Common.{◌≡◌, Bool, true, false, ◌||◌, List, [], ◌∷◌, ◌++◌, map, Some, refl, sym, ap, subst, ◌∙◌, inl, inr, append_assoc}
 use Rattle.std.specs.Ordering.{eq_by_cmp}
 use Rattle.std.proofs.lemmas.List.{map-append}
 use Rattle.std.proofs.lemmas.List.Folds.{list_any-append}
@@ -21,10 +21,6 @@ or_false false = refl
 -- one more is among them, or one of those before
 among_more : (ts : List RdfTriple) (t u : RdfTriple) → is_among (ts ++ t ∷ []) u ≡ (is_among ts u || eq_by_cmp triple_cmp u t)
 among_more ts t u = list_any-append (eq_by_cmp triple_cmp u) ts (t ∷ []) ∙ ap (λ b. is_among ts u || b) (or_false (eq_by_cmp triple_cmp u t))
-
--- of no triples there are no keys
-pub none_known : (terms : List Term) → AreKnown terms [] []
-none_known terms = record { given = tt; among = λ k g. refl }
 
 -- a triple whose terms have numbers, and its key
 pub known_more : (terms : List Term) (ts : List RdfTriple) (ks : List Key) (t : RdfTriple) (k : Key) → AreKnown terms ts ks → IsKeyOf terms t k → AreKnown terms (ts ++ t ∷ []) (ks ++ k ∷ [])
@@ -59,3 +55,29 @@ unknown_more terms ts ks t h none = record {
     apart : (j : Key) → IsGiven terms j → (b : Bool) → eq_by_cmp triple_cmp (triple_at terms j) t ≡ b → eq_by_cmp triple_cmp (triple_at terms j) t ≡ false
     apart j g true e = absurd (never terms t j none g (same_triple (triple_at terms j) t e))
     apart j g false e = e
+
+-- While triples are gone through: those that were, whose keys these are, and those that are left.
+pub record KnownSoFar (terms : List Term) (ts left : List RdfTriple) (ks : List Key) : Type 0 where
+  pub done : List RdfTriple
+  pub parts : ts ≡ done ++ left
+  pub known : AreKnown terms done ks
+
+-- the next one moves
+one_moved : (ts done old left : List RdfTriple) (t : RdfTriple) → ts ≡ done ++ old → old ≡ t ∷ left → ts ≡ (done ++ t ∷ []) ++ left
+one_moved ts done old left t parts is = parts ∙ ap (λ us. done ++ us) is ∙ sym (append_assoc done (t ∷ []) left)
+
+-- after one whose terms have numbers
+pub known_next : (terms : List Term) (ts old left : List RdfTriple) (ks more : List Key) (t : RdfTriple) (k : Key) → KnownSoFar terms ts old ks → old ≡ t ∷ left → more ≡ ks ++ k ∷ [] → IsKeyOf terms t k → KnownSoFar terms ts left more
+known_next terms ts old left ks more t k h is pushed one = record {
+  done = h.done ++ t ∷ [];
+  parts = one_moved ts h.done old left t h.parts is;
+  known = subst (AreKnown terms (h.done ++ t ∷ [])) (sym pushed) (known_more terms h.done ks t k h.known one);
+}
+
+-- after another
+pub unknown_next : (terms : List Term) (ts old left : List RdfTriple) (ks : List Key) (t : RdfTriple) → KnownSoFar terms ts old ks → old ≡ t ∷ left → IsUnknown terms t → KnownSoFar terms ts left ks
+unknown_next terms ts old left ks t h is none = record {
+  done = h.done ++ t ∷ [];
+  parts = one_moved ts h.done old left t h.parts is;
+  known = unknown_more terms h.done ks t h.known none;
+}

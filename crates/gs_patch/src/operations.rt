@@ -18,8 +18,9 @@ use gs_match::solve;
 use gs_model::Refusal;
 use gs_pool::{Key, Pool};
 use gs_staging::run_of;
-use gs_term::{Pattern, Triple};
+use gs_term::Pattern;
 use gs_tree::{Merged, union};
+use gs_triple_lists::TripleList;
 use std::alloc::Global;
 
 /// A tree after one operation, and how many keys came to it and went from it.
@@ -36,14 +37,14 @@ fn insert(
     dict: &mut Dict,
     pool: &mut Pool,
     root: Option<u32>,
-    triples: &[Triple],
+    triples: &TripleList,
     birth: u64,
 ) -> Result<Merged, Refusal>
     requires { IsStaged dict.old.terms pool.old root }
     ensures grows { Grows dict.old dict.new }
-    ensures only { GivesOnly (IsTermIn triples.now) dict.old.terms dict.new.terms }
+    ensures only { GivesOnly (IsTermIn triples.now.items) dict.old.terms dict.new.terms }
     ensures ok { IfOk result (GainsTriples birth dict.old.terms dict.new.terms pool.old pool.new root
-        triples.now) }
+        triples.now.items) }
     ensures kept { OnErr result (pool.new ≡ pool.old) }
 {
     let keys = run_of(alloc, dict, triples)?;
@@ -77,11 +78,11 @@ fn delete(
     dict: &Dict,
     pool: &mut Pool,
     root: Option<u32>,
-    triples: &[Triple],
+    triples: &TripleList,
     birth: u64,
 ) -> Result<Pruned, HalfDone>
     requires { IsStaged dict.now.terms pool.old root }
-    ensures ok { IfOk result (LosesTriples birth dict.now.terms pool.old pool.new root triples.now) }
+    ensures ok { IfOk result (LosesTriples birth dict.now.terms pool.old pool.new root triples.now.items) }
     ensures half { IfErr result (λ h. ChangesSome birth dict.now.terms pool.old pool.new root h.root) }
 {
     let Ok(keys) = known_keys(alloc, dict, triples) else {
@@ -128,7 +129,7 @@ pub fn operate(
     ensures half { IfErr result (λ h. ChangesSome birth dict.new.terms pool.old pool.new root h.root) }
 {
     match operation {
-        Op::Insert(triples) => match insert(alloc, dict, pool, root, triples.as_slice(), birth) {
+        Op::Insert(triples) => match insert(alloc, dict, pool, root, triples, birth) {
             Ok(merged) => Ok(Operated {
                 root: merged.root,
                 added: merged.added,
@@ -137,7 +138,7 @@ pub fn operate(
             Err(_) => Err(HalfDone { root }),
         },
         Op::DeleteData(triples) => {
-            let pruned = delete(alloc, dict, pool, root, triples.as_slice(), birth)?;
+            let pruned = delete(alloc, dict, pool, root, triples, birth)?;
             Ok(Operated {
                 root: pruned.root,
                 added: 0,

@@ -5,7 +5,7 @@ use crate::updates::operations;
 use gs_event::Op;
 use gs_match_tests::triples;
 use gs_model::Refusal;
-use gs_term::Triple;
+use gs_triple_lists::TripleList;
 use std::alloc::Global;
 use std::test::Fail;
 
@@ -47,7 +47,7 @@ fn number(column: Option<&str>) -> u128 {
 /// Whether an update leaves exactly the triples wanted, and says so many.
 fn leaves(
     alloc: Global,
-    graph: &[Triple],
+    graph: &TripleList,
     update: &[Op],
     wanted: &str,
     added: u128,
@@ -62,7 +62,7 @@ fn leaves(
 /// Whether a row is right, without its graph, which is lent.
 fn is_so_of(
     alloc: Global,
-    graph: &[Triple],
+    graph: &TripleList,
     update: &str,
     wanted: &str,
     added: u128,
@@ -83,8 +83,8 @@ fn is_so(alloc: Global, row: &str) -> Result<bool, Refusal> {
     let wanted = columns.next().unwrap_or_default();
     let added = number(columns.next());
     let removed = number(columns.next());
-    let graph = triples(alloc, graph)?;
-    let answer = is_so_of(alloc, graph.as_slice(), update, wanted, added, removed);
+    let graph = TripleList::of(alloc, triples(alloc, graph)?)?;
+    let answer = is_so_of(alloc, &graph, update, wanted, added, removed);
     drop(graph);
     answer
 }

@@ -12,6 +12,7 @@ use gs_pool::{Key, Pool};
 use gs_staging::stage;
 use gs_term::{TermText, Triple};
 use gs_tree::next_keys;
+use gs_triple_lists::TripleList;
 use std::alloc::Global;
 
 /// Whether a number is a term's.
@@ -55,7 +56,7 @@ fn patched(
     alloc: Global,
     dict: &mut Dict,
     pool: &mut Pool,
-    triples: &[Triple],
+    triples: &TripleList,
     operations: &[Op],
 ) -> Result<Draft, Refusal>
     requires { aside_count pool.old ≡ 0 }
@@ -71,7 +72,7 @@ fn is_left_in(
     alloc: Global,
     dict: &mut Dict,
     pool: &mut Pool,
-    triples: &[Triple],
+    triples: &TripleList,
     operations: &[Op],
     wanted: &[Triple],
     counts: (u128, u128),
@@ -90,7 +91,7 @@ fn is_left_in(
 /// says that so many came and so many went.
 pub fn is_left(
     alloc: Global,
-    triples: &[Triple],
+    triples: &TripleList,
     operations: &[Op],
     wanted: &[Triple],
     added: u128,

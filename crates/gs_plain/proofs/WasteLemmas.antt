@@ -21,7 +21,7 @@ use Rattle.gs_event.specs.Operations.{is_success}
 use Rattle.gs_event.specs.Phases.{Writing, Patching}
 use Rattle.gs_event.specs.Views.{Totals, SeatView}
 use Rattle.gs_event.specs.Births.{NodeBirths, no_births, births_at, staged_births}
-use Rattle.gs_event.specs.Born.{ended_sum, AreSameBirths, Leave, Bearing, NoneBorn, StageBears, GraphBears, Hands, UploadBears, PatchBears, DeleteBears, Bears, HasFewBirths}
+use Rattle.gs_event.specs.Born.{ended_sum, AreSameBirths, Leave, Bearing, BirthsStay, StageBears, GraphBears, Hands, UploadBears, PatchBears, DeleteBears, Bears, HasFewBirths}
 use Rattle.gs_event.specs.Wasting.{Joins, JoinsBoth, UploadNodes, UpdateNodes, DeleteNodes, WastesNodes, UploadRecords, UpdateRecords, DeleteRecords, WastesRecords, bearing_of, WastesIf}
 use Rattle.gs_event.specs.Steps.{Wastes}
 
@@ -103,7 +103,7 @@ module _ (b : Bearing) (bare : IsBare b) where
   bare_own : AreSameBirths b.own b.own_then
   bare_own f = ap (sum_by f) (bare.own_then ∙ sym bare.own)
 
-  bare_none : NoneBorn b
+  bare_none : BirthsStay b
   bare_none = (bare_graph, bare_own)
 
   bare_stage : (commit : ℕ) → StageBears commit b

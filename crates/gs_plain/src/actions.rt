@@ -8,7 +8,8 @@ use crate::{patches, reads, writes};
 use gs_event::{Action, Answer, UploadKind};
 use gs_graphs::SortedGraph;
 use gs_model::{LAST_NODE, LAST_NUMBER, Refusal};
-use gs_term::{Target, Triple};
+use gs_term::Target;
+use gs_triple_lists::TripleList;
 use std::alloc::Global;
 
 /// The most nodes, of current graphs and open uploads: their numbers begin at 0.
@@ -73,7 +74,7 @@ fn open(
 
 /// The whole piece or nothing. Where there are too few nodes for the triples of the piece, that is
 /// want of memory too.
-fn stage(books: &mut Books, seat: &mut Seat, alloc: Global, triples: &Vec<Triple>) -> Answer
+fn stage(books: &mut Books, seat: &mut Seat, alloc: Global, triples: &TripleList) -> Answer
     requires { IsReady books.old seat.old }
     ensures acts { Acts books.old books.new seat.old seat.new (Action.Stage triples.now) result }
     ensures room { HoldsRoom books.old books.new seat.old seat.new }
@@ -83,6 +84,9 @@ fn stage(books: &mut Books, seat: &mut Seat, alloc: Global, triples: &Vec<Triple
     };
     let others = books.staged - graph.len() as u64;
     let most = MAX_NODES - (books.triples + others);
+    let Ok(triples) = triples.to_vec(alloc) else {
+        return Answer::Refused(Refusal::NoMemory);
+    };
     match graph.add_within(alloc, triples.as_slice(), most) {
         Ok(()) => {
             books.staged = others + graph.len() as u64;

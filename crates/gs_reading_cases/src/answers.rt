@@ -3,8 +3,8 @@ use crate::cases::{Case, Language};
 use gs_iri::is_absolute;
 use gs_model::Refusal;
 use gs_ntread::NTriplesReader;
-use gs_term::Triple;
 use gs_test_readings::{feed, graph_lines_of};
+use gs_triple_lists::TripleList;
 use gs_turtle::TurtleReader;
 use std::alloc::Global;
 use std::io::{self, Write};
@@ -20,7 +20,7 @@ fn read_ntriples(
     alloc: Global,
     text: &[u8],
     size: usize,
-    triples: &mut Vec<Triple>,
+    triples: &mut TripleList,
 ) -> Result<(), Refusal> {
     let mut reader = NTriplesReader::new(alloc, REQUEST);
     feed(&mut reader, text, size, triples)
@@ -31,7 +31,7 @@ fn read_turtle(
     alloc: Global,
     text: &[u8],
     size: usize,
-    triples: &mut Vec<Triple>,
+    triples: &mut TripleList,
 ) -> Result<(), Refusal> {
     if !is_absolute(BASE) {
         return Err(Refusal::Syntax(0));
@@ -41,26 +41,34 @@ fn read_turtle(
 }
 
 /// The triples of a case, as often as they stand in it.
-fn triples_of(alloc: Global, case: &Case) -> Result<Vec<Triple>, Refusal> {
+fn triples_of(alloc: Global, case: &Case) -> Result<TripleList, Refusal> {
     let text = case.text.as_slice();
     let size = if case.size == 0 {
         usize::MAX
     } else {
         case.size
     };
-    let mut triples = Vec::new(alloc);
-    match case.language {
-        Language::NTriples => read_ntriples(alloc, text, size, &mut triples)?,
-        Language::Turtle => read_turtle(alloc, text, size, &mut triples)?,
+    let mut triples = TripleList::new(alloc);
+    let read = match case.language {
+        Language::NTriples => read_ntriples(alloc, text, size, &mut triples),
+        Language::Turtle => read_turtle(alloc, text, size, &mut triples),
+    };
+    match read {
+        Ok(()) => Ok(triples),
+        Err(refusal) => {
+            drop(triples);
+            Err(refusal)
+        }
     }
-    Ok(triples)
 }
 
 /// How many triples a case has, and the lines of its graph.
 fn graph_of(alloc: Global, case: &Case) -> Result<(usize, Vec<u8>), Refusal> {
     let triples = triples_of(alloc, case)?;
-    let lines = graph_lines_of(alloc, triples.as_slice())?;
-    Ok((triples.len(), lines))
+    let lines = graph_lines_of(alloc, &triples);
+    let count = triples.len();
+    drop(triples);
+    Ok((count, lines?))
 }
 
 /// Prints how many triples a case has, and the lines of its graph; or its fault.

@@ -8,7 +8,7 @@ use Rattle.gs_term.specs.Names.{name_cmp}
 use Rattle.gs_term.proofs.NameLemmas.{name_total, name_exact}
 use Rattle.gs_index.specs.declared.entries.Entry.{Entry}
 use Rattle.gs_records.specs.Records.{Record, free, opened, unused, kept, is_current}
-use Rattle.gs_records.specs.Births.{Births, no_births, birth_at, with_birth, without_birth, with_record_birth, births_of}
+use Rattle.gs_records.specs.Births.{Births, no_record_births, birth_at, with_birth, without_birth, with_record_birth, births_of}
 use Rattle.gs_records.proofs.Found.{Found, NotHere, later, not_in, not_kept, same_kept, cases_target, itself_name, other_name}
 use Rattle.gs_records.proofs.Same.{AreOnce, Agrees, same_entry}
 
@@ -51,7 +51,7 @@ birth_with-without b t n = same_births _ _ (λ u. elim (cases_target u t) [
 ])
 
 -- where there is no record there is no birth
-birth_at-none : (t : Target) → birth_at no_births t ≡ None
+birth_at-none : (t : Target) → birth_at no_record_births t ≡ None
 birth_at-none Default = refl
 birth_at-none (Named q) = map.get-empty name_cmp q
 

@@ -12,8 +12,8 @@ pub record Births : Type 0 where
   pub named : map.FinMap name_cmp ℕ
 
 -- no record
-abbrev pub no_births : Births
-no_births = record { unnamed = None; named = map.empty }
+abbrev pub no_record_births : Births
+no_record_births = record { unnamed = None; named = map.empty }
 
 -- that of a target's graph, if it has a record
 abbrev pub birth_at : Births → Target → Option ℕ
@@ -39,5 +39,5 @@ with_record_birth (kept e) b = if is_current e then with_birth b e.target e.birt
 
 -- the commits that made the records which have not died
 abbrev pub births_of : List Record → Births
-births_of [] = no_births
+births_of [] = no_record_births
 births_of (r ∷ rs) = with_record_birth r (births_of rs)

@@ -1,8 +1,8 @@
 -- The steps that end an upload or a patch: a commit, or a cancel and a reply.
-use Rattle.std.proofs.Common.{◌≡◌, ◌≢◌, inl, inr, ◌+◌, ◌≤◌, arith, ℕ, Bool, true, false, List, [], ◌∷◌, ◌++◌, length, Some, None, refl, sym, ap, subst, ◌∙◌, append-nil, Vec}
-use Rattle.std.specs.declared.alloc.Global.{Global}
+use Rattle.std.proofs.Common.{◌≡◌, ◌≢◌, inl, inr, ◌+◌, ◌≤◌, arith, ℕ, Bool, true, false, List, [], ◌∷◌, ◌++◌, length, Some, None, refl, sym, ap, subst, ◌∙◌, append-nil}
 use Rattle.gs_model.specs.Triples.{RdfTriple}
 use Rattle.gs_model.specs.declared.refusals.Refusal.TheVariants as why
+use Rattle.gs_triple_lists.specs.Lists.{Listed}
 use Rattle.gs_event.specs.declared.events.Action.TheVariants as act
 use Rattle.gs_event.specs.declared.answers.Answer.{Answer}
 use Rattle.gs_event.specs.declared.answers.Answer.TheVariants.{Staged, Status, Cancelled, Refused}
@@ -50,7 +50,7 @@ commit_leads a k r g answer b x h said body l at whole means served n o =
     broke a k (Did act.Commit answer) (Writing r g) b b x h said l (tt, tt) at refl (λ o. tt) (no_more a k b x h said l) n o
 
 -- The last triples of a whole body are staged: the Commit is due.
-pub stage_last : {s : Server} {e : Bool} (a : Asked) (k : Work) (r : ℕ) (g : List RdfTriple) (v : Vec RdfTriple Global) (answer : Answer) (b x : List ℕ) (h : Deeds) (said body : List ℕ) (l : LeadsTo s e (Serving a k) b x h said)
+pub stage_last : {s : Server} {e : Bool} (a : Asked) (k : Work) (r : ℕ) (g : List RdfTriple) (v : Listed) (answer : Answer) (b x : List ℕ) (h : Deeds) (said body : List ℕ) (l : LeadsTo s e (Serving a k) b x h said)
     → l.trail.course ≡ Writing r g → IsWholeAt l body → stages_in l.now ≤ length body → ((z : List ℕ) → length body ≤ length (l.trail.cut z).bytes) → States s.base a r body (g ++ v.items) → v.items ≢ []
     → (m : Next) → AfterStage a Committing answer m → LeadsTo s e m.phase b x (h ++ (act.Stage v, answer) ∷ []) (said ++ m.said.items)
 stage_last {s} {e} a k r g v answer b x h said body l at whole few long means full m o = go v.items refl full answer o

@@ -1,9 +1,9 @@
 -- The steps of an upload.
-use Rattle.std.proofs.Common.{◌≡◌, ◌≢◌, ◌+◌, ◌≤◌, ◌<◌, arith, ℕ, Bool, List, [], ◌∷◌, ◌++◌, length, drop, refl, sym, ap, subst, ◌∙◌, append-nil, append_assoc, length-append, Vec}
-use Rattle.std.specs.declared.alloc.Global.{Global}
+use Rattle.std.proofs.Common.{◌≡◌, ◌≢◌, ◌+◌, ◌≤◌, ◌<◌, arith, ℕ, Bool, List, [], ◌∷◌, ◌++◌, length, drop, refl, sym, ap, subst, ◌∙◌, append-nil, append_assoc, length-append}
 use Rattle.gs_model.specs.Triples.{RdfTriple}
 use Rattle.gs_model.specs.declared.refusals.Refusal.TheVariants as why
 use Rattle.gs_body.specs.Bodies.{Meaning}
+use Rattle.gs_triple_lists.specs.Lists.{Listed}
 use Rattle.gs_event.specs.declared.events.Action.TheVariants as act
 use Rattle.gs_event.specs.declared.answers.Answer.{Answer}
 use Rattle.gs_event.specs.declared.answers.Answer.TheVariants.{Staged, Refused}
@@ -78,7 +78,7 @@ reads_on {s} a k k2 t t2 bytes b x n h said l p r =
 
 -- What came was read, and what it gave was staged.
 pub stage_leads : {s : Server} {e : Bool} (a : Asked) (k k2 : Reading TextReader) (t t2 : Transfer) (bytes b x : List ℕ) (n : ℕ) (h : Deeds) (said : List ℕ) (l : LeadsTo s e (Serving a (Uploading k t)) b x h said)
-    → GivesData t t2 b bytes n → 0 < length bytes → (v : Vec RdfTriple Global) → v.items ≢ [] → Reads k k2 bytes v.items
+    → GivesData t t2 b bytes n → 0 < length bytes → (v : Listed) → v.items ≢ [] → Reads k k2 bytes v.items
     → (answer : Answer) (m : Next) → AfterStage a (Uploading k2 t2) answer m → LeadsTo s e m.phase (drop n b) x (h ++ (act.Stage v, answer) ∷ []) (said ++ m.said.items)
 stage_leads {s} {e} a k k2 t t2 bytes b x n h said l p some v full r answer m o = go v.items refl full answer o
   where

@@ -1,12 +1,12 @@
 -- The steps of an upload, as the code makes them.
-use Rattle.std.proofs.Common.{◌≡◌, ◌≢◌, ◌+◌, ◌*◌, ◌≤◌, ◌<◌, ◌==◌, arith, ℕ, Bool, true, false, List, [], ◌∷◌, ◌++◌, length, drop, Some, refl, sym, ap, subst, ◌∙◌, append-nil, length-append, true≢false, Vec}
+use Rattle.std.proofs.Common.{◌≡◌, ◌≢◌, ◌+◌, ◌*◌, ◌≤◌, ◌<◌, ◌==◌, arith, ℕ, Bool, true, false, List, [], ◌∷◌, ◌++◌, length, drop, Some, refl, sym, ap, subst, ◌∙◌, append-nil, length-append, true≢false}
 use Rattle.std.proofs.lemmas.Bool.{eqb-true}
 use Rattle.std.proofs.lemmas.List.{length-drop, nil_from_length}
-use Rattle.std.specs.declared.alloc.Global.{Global}
 use Rattle.gs_model.specs.Triples.{RdfTriple}
 use Rattle.gs_model.specs.declared.refusals.Refusal.{Refusal}
 use Rattle.gs_model.specs.declared.refusals.Refusal.TheVariants as why
 use Rattle.gs_body.specs.Bodies.{Meaning}
+use Rattle.gs_triple_lists.specs.Lists.{Listed}
 use Rattle.gs_event.specs.declared.events.Event.{Event}
 use Rattle.gs_event.specs.declared.events.Action.{Action}
 use Rattle.gs_event.specs.declared.events.Action.TheVariants as act
@@ -119,7 +119,7 @@ fed_on setup e a k k2 t t2 bytes b n m some within p r y =
     passes_by setup e (Serving a (Uploading k t)) (Serving a (Uploading k2 t2)) b (drop n b) m y (fewer n 2 2 b some within (omega arith)) (λ x h said l. reads_on a k k2 t t2 bytes b x n h said l p r)
 
 -- The bytes were read, and what they gave was staged.
-pub fed_staged : {D : Type 0} (gives : D → Event → Answer → D → Type 0) (setup : Setup) (e : Bool) (a : Asked) (k k2 : Reading TextReader) (t t2 : Transfer) (bytes b : List ℕ) (n : ℕ) (v : Vec RdfTriple Global) (old new : D) (m : Next)
+pub fed_staged : {D : Type 0} (gives : D → Event → Answer → D → Type 0) (setup : Setup) (e : Bool) (a : Asked) (k k2 : Reading TextReader) (t t2 : Transfer) (bytes b : List ℕ) (n : ℕ) (v : Listed) (old new : D) (m : Next)
     → GivesData t t2 b bytes n → 0 < length bytes → v.items ≢ [] → Reads k k2 bytes v.items → Does gives setup.seat old (act.Stage v) new (λ answer. AfterStage a (Uploading k2 t2) answer m)
     → DoesStep gives setup e (Serving a (Uploading k t)) b old (Made m) (drop n b) new
 fed_staged gives setup e a k k2 t t2 bytes b n v old new m p some full r d =
@@ -185,7 +185,7 @@ end_staged setup e a k t b m over all y =
     }) (λ i. i))
 
 -- The body is whole, and the last that it gives is staged.
-pub end_gives : {D : Type 0} (gives : D → Event → Answer → D → Type 0) (setup : Setup) (e : Bool) (a : Asked) (k : Reading TextReader) (t : Transfer) (b : List ℕ) (v : Vec RdfTriple Global) (old new : D) (m : Next)
+pub end_gives : {D : Type 0} (gives : D → Event → Answer → D → Type 0) (setup : Setup) (e : Bool) (a : Asked) (k : Reading TextReader) (t : Transfer) (b : List ℕ) (v : Listed) (old new : D) (m : Next)
     → IsOver t b → GivesLast k v.items → v.items ≢ [] → Does gives setup.seat old (act.Stage v) new (λ answer. AfterStage a Committing answer m) → DoesStep gives setup e (Serving a (Uploading k t)) b old (Made m) b new
 end_gives gives setup e a k t b v old new m over all full d =
     made_by gives setup e (Serving a (Uploading k t)) b b old new (act.Stage v) m (λ answer. AfterStage a Committing answer m)

@@ -17,8 +17,8 @@ use crate::setups::Setup;
 use crate::steps::Step;
 use gs_door::Door;
 use gs_event::Action;
-use gs_term::Triple;
 use gs_transfer::{Part, Transfer};
+use gs_triple_lists::TripleList;
 use gs_upload::{Reading, TextReader};
 use gs_verdict::Asked;
 
@@ -29,13 +29,15 @@ pub type Upload = Reading<TextReader>;
 fn stage<D: Door>(
     setup: &Setup,
     asked: Asked,
-    triples: Vec<Triple>,
+    mut triples: TripleList,
     work: Work,
     door: &mut D,
 ) -> Next
     ensures { Does D.Gives setup.now.seat door.old (act.Stage triples) door.new
         (λ answer. AfterStage asked work answer result) }
 {
+    // The store takes them in any order, only slower, so a refusal is passed over.
+    let _ = triples.put_in_order();
     let answer = setup.act(Action::Stage(triples), door);
     after_stage(setup.alloc, asked, work, &answer)
 }
@@ -64,7 +66,7 @@ fn feed<D: Door>(
         → GivesData t transfer input.old (take count input.old) count
         → DoesStep D.Gives setup.now e (Serving asked (Uploading reading t)) input.old door.old result input.new door.new }
 {
-    let mut triples = Vec::new(setup.alloc);
+    let mut triples = TripleList::new(setup.alloc);
     let fed = reading.feed(&input.as_slice()[..count], &mut triples);
     input.skip(count);
     match fed {
@@ -92,7 +94,7 @@ fn finish<D: Door>(setup: &Setup, asked: Asked, reading: Upload, door: &mut D) -
         → ((y : List ℕ) → cut_of t (b ++ y) ≡ cut.ends (cut.Whole (b ++ y)))
         → DoesStep D.Gives setup.now e (Serving asked (Uploading reading t)) b door.old result b door.new }
 {
-    let mut triples = Vec::new(setup.alloc);
+    let mut triples = TripleList::new(setup.alloc);
     match reading.finish(&mut triples) {
         Err(_) => Step::Silent(silently(
             setup.alloc,

@@ -8,6 +8,7 @@ ghost use Rattle.gs_pass.specs.Stamps.{keeper as keeper_of};
 use gs_event::{Action, Answer, Event, Scope, UploadKind};
 use gs_shared::{CountedLedger, Pass, Room, Shared, SharedStore, StampCell, Token, stamp_cell};
 use gs_term::{GraphName, Target, TermText, Triple};
+use gs_triple_lists::TripleList;
 use std::alloc::{AllocError, Global};
 use std::marker::Brand;
 use std::sync::Wait;
@@ -83,7 +84,7 @@ fn write<C: CountedLedger, T: CountedLedger, B: Room, R: Wait>(
         Action::Open(UploadKind::Put(target), None),
     ));
     for word in words {
-        let mut list = Vec::new(alloc);
+        let mut list = TripleList::new(alloc);
         if let Some(one) = triple(alloc, word) {
             let _ = list.push(one);
         }

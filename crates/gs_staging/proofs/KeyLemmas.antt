@@ -1,8 +1,8 @@
 -- A dictionary that grows by the terms of triples, and the keys that it gives them.
-use Rattle.std.proofs.Common.{◌≡◌, ◌<◌, ℕ, List, [], ◌∷◌, ◌++◌, map, length, slice_get, Some, Result, Ok, Err, inl, inr, refl, sym, ap, subst, ◌∙◌, arith, append_assoc, append-nil, length-append}
-use Rattle.std.specs.Option.{unwrap_or}
+use Rattle.std.proofs.Common.{◌≡◌, ◌<◌, ℕ, List, [], ◌∷◌, ◌++◌, length, slice_get, get_or, Some, Result, Ok, Err, inl, inr, refl, sym, ap, subst, ◌∙◌, arith, append_assoc, append-nil, length-append}
+use Rattle.std.specs.Option.{unwrap_or, option_map}
 use Rattle.std.proofs.lemmas.List.{map-append}
-use Rattle.std.proofs.lemmas.Option.{slice_get_within, slice_get_cases, slice_get-get_or, same_Some}
+use Rattle.std.proofs.lemmas.Option.{slice_get_within, slice_get_cases, slice_get-get_or, slice_get-map, same_Some}
 use Rattle.std.proofs.Math.Seq.{get_or-append_seam}
 use Rattle.gs_model.specs.Terms.{Term, Iri}
 use Rattle.gs_model.specs.Triples.{RdfTriple}
@@ -10,6 +10,8 @@ use Rattle.gs_model.specs.declared.refusals.Refusal.{Refusal}
 use Rattle.gs_model.specs.declared.refusals.Refusal.TheVariants.{NoMemory, WrongPhase, BadSeat, LastNumber, Syntax, TermTooLong, StoreFull, NotInProfile, Closed}
 use Rattle.gs_dict.specs.declared.numbers.TermId.{TermId}
 use Rattle.gs_dict.specs.Numbering.{Numbered, IsNumberOf, Interns}
+use Rattle.gs_triple_lists.specs.declared.lists.TripleNumbers.{TripleNumbers}
+use Rattle.gs_triple_lists.specs.Kept.{triple_of_numbers, triples_of_numbers}
 use Rattle.gs_pool.specs.declared.nodes.Key.{Key}
 use Rattle.gs_tree.specs.Keys.{AllKeys}
 use Rattle.gs_keys.specs.Texts.{term_at, triple_at, IsGiven}
@@ -59,7 +61,7 @@ refused_memory d t Closed e h = absurd h
 slice_get_end : (ts : List Term) (t : Term) (n : ℕ) → n ≡ length ts → IsNumberOf (ts ++ t ∷ []) n t
 slice_get_end ts t n is =
     slice_get-get_or (ts ++ t ∷ []) n t (omega (arith, is, length-append ts (t ∷ [])))
-    ∙ ap (λ i. Some (Rattle.std.proofs.Common.get_or (ts ++ t ∷ []) i t)) is ∙ ap Some (get_or-append_seam ts t [] t)
+    ∙ ap (λ i. Some (get_or (ts ++ t ∷ []) i t)) is ∙ ap Some (get_or-append_seam ts t [] t)
 
 -- the term has its number then
 pub interned_number : (d : Numbered) (t : Term) (id : TermId) (e : Numbered) → Interns d t (Ok id) e → IsNumberOf e.terms id.number t
@@ -100,9 +102,25 @@ only_twice a b c first wider second n u h = elim (second n u h) [
   | inr is ↦ inr (wider u is)
 ]
 
+-- the terms of a triple were given their numbers, one after the other
+module _ (t : RdfTriple) (d e f g : Numbered) (s p o : Result TermId Refusal) (subject : Interns d t.subject s e) (predicate : Interns e t.predicate p f) (object : Interns f t.object o g) where
+  pub triple_grows : Grows d g
+  triple_grows = grows_twice d f g (grows_twice d e f (interned_grows d t.subject s e subject) (interned_grows e t.predicate p f predicate)) (interned_grows f t.object o g object)
+
+  pub triple_only : GivesOnly (IsTermOf t) d.terms g.terms
+  triple_only =
+      let first : GivesOnly (IsTermOf t) d.terms e.terms = only_twice d.terms d.terms e.terms (λ n u old. inl old) (λ u is. inl is) (interned_only d t.subject s e subject) in
+      let second : GivesOnly (IsTermOf t) d.terms f.terms = only_twice d.terms e.terms f.terms first (λ u is. inr (inl is)) (interned_only e t.predicate p f predicate) in
+      only_twice d.terms f.terms g.terms second (λ u is. inr (inr is)) (interned_only f t.object o g object)
+
 -- and to the terms of one triple more of a list
 pub only_in : (a b c : List Term) (ts : List RdfTriple) (i : ℕ) (t : RdfTriple) → GivesOnly (IsTermIn ts) a b → slice_get ts i ≡ Some t → GivesOnly (IsTermOf t) b c → GivesOnly (IsTermIn ts) a c
 only_in a b c ts i t first there second = only_twice a b c first (λ u is. record { place = i; triple = t; there = there; term = is }) second
+
+-- three numbers of a list are those of a triple of it
+pub triple_there : (terms : List Term) (ns : List TripleNumbers) (ts : List RdfTriple) (i : ℕ) (n : TripleNumbers) → triples_of_numbers terms ns ≡ ts → i < length ns → slice_get ts i ≡ Some (triple_of_numbers terms (get_or ns i n))
+triple_there terms ns ts i n are low =
+    ap (λ us. slice_get us i) (sym are) ∙ slice_get-map (triple_of_numbers terms) ns i ∙ ap (option_map (triple_of_numbers terms)) (slice_get-get_or ns i n low)
 
 -- it stays the term's
 pub number_kept : (d e : Numbered) → Grows d e → (n : ℕ) (t : Term) → IsNumberOf d.terms n t → IsNumberOf e.terms n t

@@ -1,4 +1,5 @@
 pub mod GroupLemmas
 pub mod KeyLemmas
+pub mod OrderedLemmas
 pub mod RunLemmas
 pub mod StageLemmas

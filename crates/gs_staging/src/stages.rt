@@ -12,8 +12,8 @@ use gs_dict::Dict;
 use gs_keys::ByText;
 use gs_model::Refusal;
 use gs_pool::{Key, Pool};
-use gs_term::Triple;
 use gs_tree::{Merged, union};
+use gs_triple_lists::TripleList;
 use std::alloc::Global;
 
 /// Puts a run of keys into a tree that no version has, in place.
@@ -36,22 +36,23 @@ fn unite(
 
 /// Adds triples to the tree of an upload, and says how many of them it lacked: the whole list goes
 /// in, or nothing. No version has the tree, so its nodes are written in place; the nodes that are
-/// made are born at the commit `birth`. Memory is wanted for a key for each triple, for its new
-/// terms, and for a node for each; that no number is left counts as want of memory. Terms that were
-/// given numbers before a refusal keep them, which shows in the dictionary alone.
+/// made are born at the commit `birth`. Memory is wanted for a number for each term of the list, for
+/// a key for each triple, for its new terms, and for a node for each; that no number is left counts
+/// as want of memory. Terms that were given numbers before a refusal keep them, which shows in the
+/// dictionary alone.
 pub fn stage(
     alloc: Global,
     dict: &mut Dict,
     pool: &mut Pool,
     root: Option<u32>,
-    triples: &[Triple],
+    triples: &TripleList,
     birth: u64,
 ) -> Result<Merged, Refusal>
     requires staged { IsStaged dict.old.terms pool.old root }
     ensures grows { Grows dict.old dict.new }
-    ensures only { GivesOnly (IsTermIn triples.now) dict.old.terms dict.new.terms }
+    ensures only { GivesOnly (IsTermIn triples.now.items) dict.old.terms dict.new.terms }
     ensures ok { IfOk result (Stages birth dict.old.terms dict.new.terms pool.old pool.new root
-        triples.now) }
+        triples.now.items) }
     ensures refused { IfErr result (λ r. r ≡ NoMemory) }
     ensures kept { OnErr result (pool.new ≡ pool.old) }
 {

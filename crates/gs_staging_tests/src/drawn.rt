@@ -4,6 +4,7 @@ use crate::lists::triple;
 use crate::uploads::Upload;
 use gs_model::Refusal;
 use gs_term::Triple;
+use gs_triple_lists::TripleList;
 use std::alloc::Global;
 use std::test::Fail;
 
@@ -47,30 +48,32 @@ fn put(all: &mut Vec<Triple>, more: &[Triple]) -> Result<usize, Refusal> {
     Ok(all.len().saturating_sub(before))
 }
 
-/// Whether a list goes into an upload and into a list of all alike.
+/// Whether a list adds so many triples to an upload, and as many nodes, after which it has exactly all triples.
 fn goes_in(
     alloc: Global,
-    list: &[Triple],
+    list: &TripleList,
     upload: &mut Upload,
-    all: &mut Vec<Triple>,
+    all: &[Triple],
+    wanted: usize,
 ) -> Result<bool, Refusal> {
-    let wanted = put(all, list)?;
     let before = upload.nodes_in_use();
     let added = upload.add(alloc, list)?;
     let made = upload.nodes_in_use().saturating_sub(before);
-    let same = upload.is_list(alloc, all.as_slice())?;
+    let same = upload.is_list(alloc, all)?;
     Ok(added == wanted && made == added as u64 && same)
 }
 
-/// Whether the next list that is drawn goes into both alike.
+/// Whether the next list that is drawn goes into an upload and into a list of all alike.
 fn is_alike(
     alloc: Global,
     draws: &mut Draws,
     upload: &mut Upload,
     all: &mut Vec<Triple>,
 ) -> Result<bool, Refusal> {
-    let list = draw_list(alloc, draws)?;
-    let answer = goes_in(alloc, list.as_slice(), upload, all);
+    let drawn = draw_list(alloc, draws)?;
+    let wanted = put(all, drawn.as_slice())?;
+    let list = TripleList::of(alloc, drawn)?;
+    let answer = goes_in(alloc, &list, upload, all.as_slice(), wanted);
     drop(list);
     answer
 }

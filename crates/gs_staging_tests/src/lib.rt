@@ -12,5 +12,5 @@ mod refusals;
 mod rows;
 mod uploads;
 
-pub use lists::{triple, triples};
+pub use lists::{listed, triple, triples};
 pub use uploads::Upload;

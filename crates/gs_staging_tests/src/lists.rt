@@ -1,6 +1,7 @@
 //! Lists of triples in a short notation.
 use gs_model::Refusal;
 use gs_term::{TermText, Triple};
+use gs_triple_lists::TripleList;
 use std::alloc::Global;
 
 /// `"x` is a literal, and any other word an IRI.
@@ -34,4 +35,9 @@ pub fn triples(alloc: Global, text: &str) -> Result<Vec<Triple>, Refusal> {
         }
     }
     Ok(list)
+}
+
+/// The same triples as a list for an upload.
+pub fn listed(alloc: Global, text: &str) -> Result<TripleList, Refusal> {
+    Ok(TripleList::of(alloc, triples(alloc, text)?)?)
 }

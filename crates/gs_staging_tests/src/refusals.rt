@@ -1,8 +1,8 @@
 //! Uploads where memory, a term's number or a node's number is refused.
-use crate::lists::triples;
+use crate::lists::{listed, triples};
 use crate::uploads::Upload;
 use gs_model::Refusal;
-use gs_term::Triple;
+use gs_triple_lists::TripleList;
 use std::alloc::Global;
 use std::test::Fail;
 
@@ -16,8 +16,8 @@ fn has_just(alloc: Global, upload: &Upload, text: &str) -> Result<bool, Refusal>
 
 /// What adding a list comes to, or that the list cannot be made.
 fn add(alloc: Global, upload: &mut Upload, text: &str) -> Result<Result<usize, Refusal>, Refusal> {
-    let list = triples(alloc, text)?;
-    let added = upload.add(alloc, list.as_slice());
+    let list = listed(alloc, text)?;
+    let added = upload.add(alloc, &list);
     drop(list);
     Ok(added)
 }
@@ -84,7 +84,7 @@ fn fills_the_pool(alloc: Global) -> Result<bool, Refusal> {
 fn add_at_last(
     alloc: Global,
     upload: &mut Upload,
-    list: &[Triple],
+    list: &TripleList,
     had: &str,
 ) -> Result<Option<usize>, Refusal> {
     let before = upload.nodes_in_use();
@@ -105,8 +105,8 @@ fn adds_whole(
     had: &str,
     wanted: usize,
 ) -> Result<bool, Refusal> {
-    let list = triples(alloc, text)?;
-    let added = add_at_last(alloc, upload, list.as_slice(), had);
+    let list = listed(alloc, text)?;
+    let added = add_at_last(alloc, upload, &list, had);
     drop(list);
     Ok(added? == Some(wanted))
 }

@@ -1,8 +1,8 @@
 //! Uploads of some lists, with what each list adds and what is there in the end, worked by hand.
-use crate::lists::triples;
+use crate::lists::{listed, triples};
 use crate::uploads::Upload;
 use gs_model::Refusal;
-use gs_term::Triple;
+use gs_triple_lists::TripleList;
 use std::alloc::Global;
 use std::test::Fail;
 
@@ -32,7 +32,7 @@ one term at all places | 1: a a a; 0: a a a, a a a | a a a
 fn adds(
     alloc: Global,
     upload: &mut Upload,
-    list: &[Triple],
+    list: &TripleList,
     wanted: usize,
 ) -> Result<bool, Refusal> {
     let before = upload.nodes_in_use();
@@ -47,8 +47,8 @@ fn adds_right(alloc: Global, upload: &mut Upload, text: &str) -> Result<bool, Re
         return Ok(true);
     };
     let wanted = count.trim().parse::<usize>().unwrap_or(usize::MAX);
-    let list = triples(alloc, list)?;
-    let answer = adds(alloc, upload, list.as_slice(), wanted);
+    let list = listed(alloc, list)?;
+    let answer = adds(alloc, upload, &list, wanted);
     drop(list);
     answer
 }

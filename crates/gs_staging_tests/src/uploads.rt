@@ -8,6 +8,7 @@ use gs_pool::{Key, Pool};
 use gs_staging::stage;
 use gs_term::{TermText, Triple};
 use gs_tree::next_keys;
+use gs_triple_lists::TripleList;
 use std::alloc::Global;
 use std::marker::Model;
 
@@ -61,7 +62,7 @@ impl Upload {
     }
 
     /// Adds triples, and says how many were new.
-    pub fn add(&mut self, alloc: Global, triples: &[Triple]) -> Result<usize, Refusal> {
+    pub fn add(&mut self, alloc: Global, triples: &TripleList) -> Result<usize, Refusal> {
         let merged = stage(alloc, &mut self.dict, &mut self.pool, self.root, triples, 1)?;
         self.root = merged.root;
         Ok(merged.added)

@@ -3,6 +3,7 @@
 use gs_model::Refusal;
 use gs_packed_triples::{PackedTriples, SplitText};
 use gs_term::{TermText, Triple};
+use gs_triple_lists::TripleList;
 use std::alloc::{AllocError, Global};
 use std::test::Fail;
 
@@ -62,7 +63,7 @@ fn triple(alloc: Global, terms: &[usize; 3]) -> Result<Triple, Refusal> {
 }
 
 /// Appends the triples of a list.
-fn push_list(alloc: Global, rows: &[[usize; 3]], triples: &mut Vec<Triple>) -> Result<(), Refusal> {
+fn push_list(alloc: Global, rows: &[[usize; 3]], triples: &mut TripleList) -> Result<(), Refusal> {
     for row in rows {
         triples.push(triple(alloc, row)?)?;
     }
@@ -71,7 +72,7 @@ fn push_list(alloc: Global, rows: &[[usize; 3]], triples: &mut Vec<Triple>) -> R
 
 /// Packs the triples of a list.
 fn pack(alloc: Global, rows: &[[usize; 3]], packed: &mut PackedTriples) -> Result<bool, Refusal> {
-    let mut triples = Vec::new(alloc);
+    let mut triples = TripleList::new(alloc);
     let listed = push_list(alloc, rows, &mut triples);
     let has_room = packed.make_room(&triples);
     if has_room {

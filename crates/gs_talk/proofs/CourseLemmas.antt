@@ -5,6 +5,7 @@ use Rattle.std.specs.FinMap as map
 use Rattle.gs_model.specs.Triples.{RdfTriple}
 use Rattle.gs_model.specs.Graphs.{graph_of, triples_of, with_triples}
 use Rattle.gs_model.proofs.GraphLemmas.{graph_of-triples_of}
+use Rattle.gs_triple_lists.specs.Lists.{Listed}
 use Rattle.gs_event.proofs.SizeLemmas.{turned}
 use Rattle.gs_model.specs.declared.refusals.Refusal.TheVariants as why
 use Rattle.gs_event.specs.declared.events.Action.TheVariants.{Open, OpenPatch, Stage, Commit, CommitPatch, Delete, Head, Pin, Piece, Cancel}
@@ -88,20 +89,20 @@ first_follows a piece p m s r = absurd r
 
 -- in an upload
 
-staged : (p : Plan) (r : ℕ) (g : List RdfTriple) (v : Vec RdfTriple Global) (u : List RdfTriple) → v.items ≡ u
+staged : (p : Plan) (r : ℕ) (g : List RdfTriple) (v : Listed) (u : List RdfTriple) → v.items ≡ u
     → phase_then (writing_phase p r g) (Stage v, Staged) ≡ writing_phase p r (g ++ u)
 staged (Uploads k since) r g v u e = ap (λ z. phase.Writing k r z since) (ap (with_triples (graph_of g)) e ∙ graph_grows g u)
 staged p r g v u e = refl
 
-unstaged : (p : Plan) (r : ℕ) (g : List RdfTriple) (v : Vec RdfTriple Global) (e : _) → phase_then (writing_phase p r g) (Stage v, Refused e) ≡ writing_phase p r g
+unstaged : (p : Plan) (r : ℕ) (g : List RdfTriple) (v : Listed) (e : _) → phase_then (writing_phase p r g) (Stage v, Refused e) ≡ writing_phase p r g
 unstaged (Uploads k since) r g v e = refl
 unstaged p r g v e = refl
 
-no_point : (p : Plan) (r : ℕ) (g : List RdfTriple) (v : Vec RdfTriple Global) (answer : Answer) → operation_of (writing_phase p r g) (Stage v) answer ≡ None
+no_point : (p : Plan) (r : ℕ) (g : List RdfTriple) (v : Listed) (answer : Answer) → operation_of (writing_phase p r g) (Stage v) answer ≡ None
 no_point (Uploads k since) r g v answer = refl
 no_point p r g v answer = refl
 
-stage_follows : (p : Plan) (r : ℕ) (g : List RdfTriple) (v : Vec RdfTriple Global) (u : List RdfTriple) (answer : Answer) → v.items ≡ u → IsRight (at_stage r g u answer)
+stage_follows : (p : Plan) (r : ℕ) (g : List RdfTriple) (v : Listed) (u : List RdfTriple) (answer : Answer) → v.items ≡ u → IsRight (at_stage r g u answer)
     → Follows p (Writing r g) (at_stage r g u answer) (Did (Stage v) answer)
 stage_follows p r g v [] answer e h = absurd h
 stage_follows p r g v (t ∷ ts) Staged e h = record { seat = staged p r g v (t ∷ ts) e; asked = rw (no_point p r g v Staged) refl }

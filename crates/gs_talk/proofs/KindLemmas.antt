@@ -4,6 +4,7 @@ use Rattle.std.specs.declared.alloc.Global.{Global}
 use Rattle.std.specs.List.{slice_get}
 use Rattle.gs_model.specs.Triples.{RdfTriple}
 use Rattle.gs_model.specs.declared.refusals.Refusal.TheVariants as why
+use Rattle.gs_triple_lists.specs.Lists.{Listed}
 use Rattle.gs_event.specs.declared.updates.Op.{Op}
 use Rattle.gs_event.specs.declared.events.Action.{Action}
 use Rattle.gs_event.specs.declared.events.Action.TheVariants.{Open, OpenPatch, Stage, Commit, CommitPatch, Delete, Head, Pin, Piece, Cancel}
@@ -89,7 +90,7 @@ pin_misfit a v (phase.Writing j r g w) u answer f b = absurd f
 pin_misfit a v (phase.Patching t r w) u answer f b = absurd f
 pin_misfit a v (phase.Reading l) u answer f b = absurd f
 
-stage_misfit : (v : Totals) (p : SeatView) (r : ℕ) (g us : List RdfTriple) (ts : Vec RdfTriple Global) (answer : Answer) → FitsSeat v p (Stage ts) answer → IsBroken (at_stage r g us answer) → is_misfit answer ≡ true
+stage_misfit : (v : Totals) (p : SeatView) (r : ℕ) (g us : List RdfTriple) (ts : Listed) (answer : Answer) → FitsSeat v p (Stage ts) answer → IsBroken (at_stage r g us answer) → is_misfit answer ≡ true
 stage_misfit v p r g [] ts answer f b = absurd b
 stage_misfit v p r g (u ∷ us) ts Staged f b = absurd b
 stage_misfit v p r g (u ∷ us) ts (Refused why.NoMemory) f b = absurd b

@@ -63,6 +63,18 @@ impl Triple {
         &self.object
     }
 
+    /// Its terms, which are taken out: the subject, the predicate and the object.
+    pub fn into_terms(self) -> (TermText, TermText, TermText)
+        ensures { result ≡ (self.subject, self.predicate, self.object) }
+    {
+        let Triple {
+            subject,
+            predicate,
+            object,
+        } = self;
+        (subject, predicate, object)
+    }
+
     /// For proofs: every value is a triple.
     pub fn known(&self)
         ensures { IsTriple self.now }

@@ -2,6 +2,7 @@
 use gs_event::Op;
 use gs_model::Refusal;
 use gs_term::{Part, Pattern, TermText, Triple, VariableName};
+use gs_triple_lists::TripleList;
 use std::alloc::{AllocError, Global};
 
 const TYPE: &str = "http://www.w3.org/1999/02/22-rdf-syntax-ns#type";
@@ -114,7 +115,7 @@ fn pattern(alloc: Global, text: &str) -> Result<Pattern, Refusal> {
 const DOT: &str = " .";
 
 /// Triples with a dot after each, which the last need not have.
-pub fn triples(alloc: Global, text: &str) -> Result<Vec<Triple>, Refusal> {
+pub fn triples(alloc: Global, text: &str) -> Result<TripleList, Refusal> {
     let mut list = Vec::new(alloc);
     for piece in text.split(DOT) {
         let piece = piece.trim();
@@ -122,7 +123,7 @@ pub fn triples(alloc: Global, text: &str) -> Result<Vec<Triple>, Refusal> {
             list.push(triple(alloc, piece)?)?;
         }
     }
-    Ok(list)
+    Ok(TripleList::of(alloc, list)?)
 }
 
 /// The same of patterns.

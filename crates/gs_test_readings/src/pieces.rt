@@ -1,7 +1,7 @@
 //! A text fed in pieces of any size.
 use gs_body::BodyReader;
 use gs_model::Refusal;
-use gs_term::Triple;
+use gs_triple_lists::TripleList;
 
 /// The lengths of pieces in bytes; the last is whole.
 pub const SIZES: [usize; 4] = [1, 2, 3, usize::MAX];
@@ -11,7 +11,7 @@ pub fn feed<R: BodyReader>(
     reader: &mut R,
     text: &[u8],
     size: usize,
-    triples: &mut Vec<Triple>,
+    triples: &mut TripleList,
 ) -> Result<(), Refusal> {
     for piece in text.chunks(size.max(1)) {
         reader.feed(piece, triples)?;

@@ -3,7 +3,7 @@ use crate::lines::{graph_lines_of, lines_of};
 use crate::pieces::feed;
 use gs_iri::is_absolute;
 use gs_model::Refusal;
-use gs_term::Triple;
+use gs_triple_lists::TripleList;
 use gs_turtle::TurtleReader;
 use std::alloc::Global;
 
@@ -21,17 +21,22 @@ fn read_into(
     base: &str,
     text: &[u8],
     size: usize,
-    triples: &mut Vec<Triple>,
+    triples: &mut TripleList,
 ) -> Result<(), Refusal> {
     let mut reader = reader(alloc, base)?;
     feed(&mut reader, text, size, triples)
 }
 
 /// The triples of a text, in the order in which they are given.
-fn read(alloc: Global, base: &str, text: &[u8], size: usize) -> Result<Vec<Triple>, Refusal> {
-    let mut triples = Vec::new(alloc);
-    read_into(alloc, base, text, size, &mut triples)?;
-    Ok(triples)
+fn read(alloc: Global, base: &str, text: &[u8], size: usize) -> Result<TripleList, Refusal> {
+    let mut triples = TripleList::new(alloc);
+    match read_into(alloc, base, text, size, &mut triples) {
+        Ok(()) => Ok(triples),
+        Err(refusal) => {
+            drop(triples);
+            Err(refusal)
+        }
+    }
 }
 
 /// How many they are.
@@ -47,13 +52,13 @@ pub fn lines_as_read(
     size: usize,
 ) -> Result<Vec<u8>, Refusal> {
     let triples = read(alloc, base, text, size)?;
-    lines_of(alloc, triples.as_slice())
+    lines_of(alloc, &triples)
 }
 
 /// The lines of a text's graph, each with its line feed, in the order of their bytes.
 pub fn graph_of(alloc: Global, base: &str, text: &[u8], size: usize) -> Result<Vec<u8>, Refusal> {
     let triples = read(alloc, base, text, size)?;
-    graph_lines_of(alloc, triples.as_slice())
+    graph_lines_of(alloc, &triples)
 }
 
 /// The fault of a text.

@@ -2,8 +2,8 @@
 use gs_iri::is_absolute;
 use gs_model::Refusal;
 use gs_ntread::NTriplesReader;
-use gs_term::Triple;
 use gs_test_readings::{feed, lines_of};
+use gs_triple_lists::TripleList;
 use gs_turtle::TurtleReader;
 use std::alloc::Global;
 
@@ -20,7 +20,7 @@ pub fn read(
     language: Language,
     text: &[u8],
     size: usize,
-    triples: &mut Vec<Triple>,
+    triples: &mut TripleList,
 ) -> Result<(), Refusal> {
     match language {
         Language::NTriples => {
@@ -49,9 +49,9 @@ pub fn lines_as_read(
     text: &[u8],
     size: usize,
 ) -> Result<Vec<u8>, Refusal> {
-    let mut triples = Vec::new(alloc);
+    let mut triples = TripleList::new(alloc);
     let read = read(alloc, language, text, size, &mut triples);
-    let lines = lines_of(alloc, triples.as_slice());
+    let lines = lines_of(alloc, &triples);
     drop(triples);
     read?;
     lines

@@ -2,6 +2,7 @@
 use crate::bodies::{Language, read};
 use gs_model::Refusal;
 use gs_test_readings::SIZES;
+use gs_triple_lists::TripleList;
 use std::alloc::Global;
 use std::test::Fail;
 
@@ -118,7 +119,7 @@ const UNFINISHED: [Row; 6] = [
 /// Whether a text in pieces of this length has its fault in a language, and where that is asked
 /// each statement before it was given.
 fn has_fault(alloc: Global, language: Language, row: &Row, size: usize, is_counted: bool) -> bool {
-    let mut triples = Vec::new(alloc);
+    let mut triples = TripleList::new(alloc);
     let reported = read(alloc, language, row.1, size, &mut triples);
     let count = triples.len();
     drop(triples);
@@ -170,7 +171,7 @@ fn a_text_that_ends_too_early_gives_its_statements(rt: HostRuntime) {
 /// How many triples the text up to the place of the fault has, as a document in a language.
 fn triples_before(alloc: Global, language: Language, row: &Row) -> Result<usize, Fail> {
     let front = row.1.get(..usize::try_from(row.3)?).unwrap_or_default();
-    let mut triples = Vec::new(alloc);
+    let mut triples = TripleList::new(alloc);
     let read = read(alloc, language, front, usize::MAX, &mut triples);
     let count = triples.len();
     drop(triples);

@@ -5,7 +5,7 @@ use gs_iri::resolve;
 use gs_lex::{Lexer, Token, TokenKind};
 use gs_model::Refusal;
 use gs_ntread::NTriplesReader;
-use gs_term::Triple;
+use gs_triple_lists::TripleList;
 use std::test::Fail;
 
 /// Feeds a piece, and again where memory is refused. Whether nothing had changed then.
@@ -113,7 +113,7 @@ fn a_refused_reference_leaves_the_string(rt: HostRuntime) -> Result<(), Fail> {
 }
 
 /// Whether a refused call has left the list as it was, and closed the reader.
-fn is_closed(reader: &mut NTriplesReader, triples: &mut Vec<Triple>, before: usize) -> bool {
+fn is_closed(reader: &mut NTriplesReader, triples: &mut TripleList, before: usize) -> bool {
     triples.len() == before
         && reader.feed(b"", triples) == Err(Refusal::Closed)
         && reader.finish(triples) == Err(Refusal::Closed)
@@ -121,7 +121,7 @@ fn is_closed(reader: &mut NTriplesReader, triples: &mut Vec<Triple>, before: usi
 
 /// Feeds a piece: whether it is read. `None` says that it was refused otherwise than for memory, or did
 /// not leave the list as it was and close the reader.
-fn feed(reader: &mut NTriplesReader, piece: &str, triples: &mut Vec<Triple>) -> Option<bool> {
+fn feed(reader: &mut NTriplesReader, piece: &str, triples: &mut TripleList) -> Option<bool> {
     let before = triples.len();
     match reader.feed(piece.as_bytes(), triples) {
         Ok(()) => Some(true),
@@ -134,7 +134,7 @@ fn feed(reader: &mut NTriplesReader, piece: &str, triples: &mut Vec<Triple>) -> 
 fn feed_all(
     reader: &mut NTriplesReader,
     pieces: &[&str],
-    triples: &mut Vec<Triple>,
+    triples: &mut TripleList,
 ) -> Option<bool> {
     for piece in pieces {
         if !feed(reader, piece, triples)? {
@@ -145,7 +145,7 @@ fn feed_all(
 }
 
 /// Whether three triples are read, or a piece is refused as it must be.
-fn is_right(reader: &mut NTriplesReader, triples: &mut Vec<Triple>) -> Result<bool, Refusal> {
+fn is_right(reader: &mut NTriplesReader, triples: &mut TripleList) -> Result<bool, Refusal> {
     let pieces = [
         "_:a <a:b> <a:",
         "c> .\n<a:b> <a:b> \"x\"@EN",
@@ -164,7 +164,7 @@ fn is_right(reader: &mut NTriplesReader, triples: &mut Vec<Triple>) -> Result<bo
 #[test]
 fn a_refused_feed_leaves_the_list_and_closes_the_reader(rt: HostRuntime) -> Result<(), Fail> {
     let mut reader = NTriplesReader::new(rt.alloc(), 1);
-    let mut triples = Vec::new(rt.alloc());
+    let mut triples = TripleList::new(rt.alloc());
     let is_right = is_right(&mut reader, &mut triples);
     drop(triples);
     drop(reader);

@@ -23,7 +23,7 @@ use Rattle.gs_event.specs.Operations.{is_success}
 use Rattle.gs_event.specs.Phases.{Writing, Patching}
 use Rattle.gs_event.specs.Views.{Totals, SeatView}
 use Rattle.gs_event.specs.Waste.{Lifetime}
-use Rattle.gs_event.specs.Born.{ended_sum, AreSameBirths, Renews, Leave, GraphsStay, Bearing, NoneBorn, GraphBears, Hands, UploadBears, PatchBears, DeleteBears, Bears}
+use Rattle.gs_event.specs.Born.{ended_sum, AreSameBirths, Renews, Leave, GraphBirthsStay, Bearing, BirthsStay, GraphBears, Hands, UploadBears, PatchBears, DeleteBears, Bears}
 use Rattle.gs_ledger.specs.Entries.{tree_births}
 use Rattle.gs_catalogue.specs.declared.versions.GraphVersion.{GraphVersion}
 use Rattle.gs_catalogue.specs.Catalogues.{empty_version, no_versions, version_at, with_version}
@@ -108,13 +108,13 @@ same_renewed : (commit : ℕ) (old new : List ℕ) → AreSameBirths old new →
 same_renewed commit old new same = record { freed = []; made = []; next = λ k d lt. absurd (omega arith); same = λ f. omega (arith, same f) }
 
 -- a commit that is refused bears none
-pub refused_bears : (v : Totals) (k : UploadKind) (r : ℕ) (g : Graph) (since : Option ℕ) (e : Refusal) (b : Bearing) → NoneBorn b → Bears v (Writing k r g since) Commit (Refused e) b
+pub refused_bears : (v : Totals) (k : UploadKind) (r : ℕ) (g : Graph) (since : Option ℕ) (e : Refusal) (b : Bearing) → BirthsStay b → Bears v (Writing k r g since) Commit (Refused e) b
 refused_bears v (Put t) r g since e b none = none
 refused_bears v (Post t) r g since e b none = (none.0, same_renewed v.commit b.own b.own_then none.1)
 refused_bears v New r g since e b none = none
 
 -- and so does an upload without effect
-pub failed_bears : (v : Totals) (k : UploadKind) (r : ℕ) (b : Bearing) → GraphsStay b.graphs b.graphs_then → b.own_then ≡ [] → UploadBears v k r false b
+pub failed_bears : (v : Totals) (k : UploadKind) (r : ℕ) (b : Bearing) → GraphBirthsStay b.graphs b.graphs_then → b.own_then ≡ [] → UploadBears v k r false b
 failed_bears v (Put t) r b stay none = (stay, none)
 failed_bears v (Post t) r b stay none = (stay, none)
 failed_bears v New r b stay none = (stay, none)

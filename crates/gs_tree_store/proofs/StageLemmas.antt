@@ -2,11 +2,10 @@
 use Rattle.std.proofs.Common.{◌≡◌, ℕ, ◌+◌, ◌^◌, ◌<◌, List, length, Option, None, refl, sym, ap, subst, ◌∙◌, arith}
 use Rattle.std.proofs.lemmas.List.{set-get_or}
 use Rattle.std.proofs.lemmas.List.Elements.{All-head}
-use Rattle.std.specs.declared.alloc.Global.{Global}
-use Rattle.std.specs.declared.vec.Vec.{Vec}
 use Rattle.gs_model.specs.Triples.{RdfTriple}
 use Rattle.gs_model.specs.Graphs.{size_of, with_triples}
 use Rattle.gs_model.specs.declared.refusals.Refusal.TheVariants.{NoMemory}
+use Rattle.gs_triple_lists.specs.Lists.{Listed}
 use Rattle.gs_event.specs.declared.events.UploadKind.{UploadKind}
 use Rattle.gs_event.specs.declared.events.Action.TheVariants.{Stage}
 use Rattle.gs_event.specs.declared.answers.Answer.TheVariants.{Staged, Refused}
@@ -50,7 +49,7 @@ few_triples b seat k r birth v o since d q ts m writes small stages =
     (λ (any : IsReadyAny b (Writing k r v o since)). few_here b any.number k r birth v o since d q ts m small stages any.ready)
 
 -- a piece that was refused: there may be more terms
-refused_here : (b : Books) (s : ℕ) (k : UploadKind) (r : ℕ) (v : GraphVersion) (o : ℕ) (since : Option ℕ) (ts : Vec RdfTriple Global) (d : Numbered) → Grows b.dict d → IsReady b s (Writing k r v o since)
+refused_here : (b : Books) (s : ℕ) (k : UploadKind) (r : ℕ) (v : GraphVersion) (o : ℕ) (since : Option ℕ) (ts : Listed) (d : Numbered) → Grows b.dict d → IsReady b s (Writing k r v o since)
     → Acts b (record b { dict = d }) s (Writing k r v o since) (Writing k r v o since) (Stage ts) (Refused NoMemory)
 refused_here b s k r v o since ts d grows ready =
     let terms = b.dict.terms in
@@ -72,14 +71,14 @@ refused_here b s k r v o since ts d grows ready =
       born = (λ u f. refl, λ f. refl);
     }
 
-pub stage_refused : (b : Books) (seat : Seat) (k : UploadKind) (r : ℕ) (v : GraphVersion) (o : ℕ) (since : Option ℕ) (ts : Vec RdfTriple Global) (d : Numbered) (q : Nodes) → seat ≡ Writing k r v o since → Grows b.dict d → q ≡ b.pool
+pub stage_refused : (b : Books) (seat : Seat) (k : UploadKind) (r : ℕ) (v : GraphVersion) (o : ℕ) (since : Option ℕ) (ts : Listed) (d : Numbered) (q : Nodes) → seat ≡ Writing k r v o since → Grows b.dict d → q ≡ b.pool
     → ActsAny b (record b { dict = d; pool = q }) seat (Writing k r v o since) (Stage ts) (Refused NoMemory)
 stage_refused b seat k r v o since ts d q writes grows same s =
     subst (λ x. IsReady b s x → Acts b (record b { dict = d; pool = q }) s x (Writing k r v o since) (Stage ts) (Refused NoMemory)) (sym writes)
     (λ ready. subst (λ y. Acts b (record b { dict = d; pool = y }) s (Writing k r v o since) (Writing k r v o since) (Stage ts) (Refused NoMemory)) (sym same) (refused_here b s k r v o since ts d grows ready))
 
 -- a piece that went in
-staged : (b : Books) (s : ℕ) (k : UploadKind) (r birth : ℕ) (v : GraphVersion) (o : ℕ) (since : Option ℕ) (ts : Vec RdfTriple Global) (d : Numbered) (q : Nodes) (m : Merged) → birth ≡ b.versions.commit + 1 → Grows b.dict d
+staged : (b : Books) (s : ℕ) (k : UploadKind) (r birth : ℕ) (v : GraphVersion) (o : ℕ) (since : Option ℕ) (ts : Listed) (d : Numbered) (q : Nodes) (m : Merged) → birth ≡ b.versions.commit + 1 → Grows b.dict d
     → Stages birth b.dict.terms d.terms b.pool q v.root ts.items m → IsReady b s (Writing k r v o since)
     → Acts b (record b { dict = d; pool = q }) s (Writing k r v o since) (Writing k r (record { root = m.root; triples = v.triples + m.added }) o since) (Stage ts) Staged
 staged b s k r birth v o since ts d q m born grows stages ready =
@@ -123,10 +122,9 @@ staged b s k r birth v o since ts d q m born grows stages ready =
       );
     }
 
-pub stage_done : (b : Books) (seat : Seat) (k : UploadKind) (r birth : ℕ) (v : GraphVersion) (o : ℕ) (since : Option ℕ) (ts : Vec RdfTriple Global) (xs : List RdfTriple) (d : Numbered) (q : Nodes) (m : Merged) → seat ≡ Writing k r v o since → xs ≡ ts.items → birth ≡ b.versions.commit + 1
-    → Grows b.dict d → Stages birth b.dict.terms d.terms b.pool q v.root xs m
+pub stage_done : (b : Books) (seat : Seat) (k : UploadKind) (r birth : ℕ) (v : GraphVersion) (o : ℕ) (since : Option ℕ) (ts : Listed) (d : Numbered) (q : Nodes) (m : Merged) → seat ≡ Writing k r v o since → birth ≡ b.versions.commit + 1
+    → Grows b.dict d → Stages birth b.dict.terms d.terms b.pool q v.root ts.items m
     → ActsAny b (record b { dict = d; pool = q }) seat (Writing k r (record { root = m.root; triples = v.triples + m.added }) o since) (Stage ts) Staged
-stage_done b seat k r birth v o since ts xs d q m writes items born grows stages s =
-    let here : Stages birth b.dict.terms d.terms b.pool q v.root ts.items m = subst (λ ys. Stages birth b.dict.terms d.terms b.pool q v.root ys m) items stages in
+stage_done b seat k r birth v o since ts d q m writes born grows stages s =
     subst (λ x. IsReady b s x → Acts b (record b { dict = d; pool = q }) s x (Writing k r (record { root = m.root; triples = v.triples + m.added }) o since) (Stage ts) Staged) (sym writes)
-    (staged b s k r birth v o since ts d q m born grows here)
+    (staged b s k r birth v o since ts d q m born grows stages)

@@ -5,7 +5,7 @@ use Rattle.gs_event.specs.declared.events.Action.{Action}
 use Rattle.gs_event.specs.declared.answers.Answer.{Answer}
 use Rattle.gs_event.specs.Phases as phase
 use Rattle.gs_event.specs.Views.{FitsSeat, next_totals, next_phase}
-use Rattle.gs_event.specs.Born.{Bearing, NoneBorn, Bears}
+use Rattle.gs_event.specs.Born.{Bearing, BirthsStay, Bears}
 use Rattle.gs_event.specs.Wasting.{WastesNodes}
 use Rattle.gs_event.specs.Steps.{pin_after}
 use Rattle.gs_dict.specs.Numbering.{Numbered}
@@ -171,7 +171,7 @@ pub nothing_done : (b : Books) (s : ℕ) (seat : Seat) (action : Action) (a : An
     → pin_after b.versions.commit (get_or b.versions.seats s None) action a ≡ get_or b.versions.seats s None
     → WastesNodes (totals_of b) (seat_view_by b seat) action a (waste_at b.pool) (waste_at b.pool)
     → TakesNodes (seat_view_by b seat) action a (in_use b.pool) (in_use b.pool)
-    → ((x : Bearing) → NoneBorn x → Bears (totals_of b) (seat_view_by b seat) action a x)
+    → ((x : Bearing) → BirthsStay x → Bears (totals_of b) (seat_view_by b seat) action a x)
     → IsReady b s seat → Acts b b s seat seat action a
 nothing_done b s seat action a fits totals phase pin waste takes bears ready = record {
   fits = fits;
@@ -195,7 +195,7 @@ pub read_over : (b : Books) (s : ℕ) (was : Seat) (action : Action) (a : Answer
     → upload_tree b.pool was ≡ leaf
     → WastesNodes (totals_of b) (seat_view_by b was) action a (waste_at b.pool) (waste_at b.pool)
     → TakesNodes (seat_view_by b was) action a (in_use b.pool) (in_use b.pool)
-    → ((x : Bearing) → NoneBorn x → Bears (totals_of b) (seat_view_by b was) action a x)
+    → ((x : Bearing) → BirthsStay x → Bears (totals_of b) (seat_view_by b was) action a x)
     → IsReady b s was → Acts b (record b { versions = with_pin b.versions s None }) s was Idle action a
 read_over b s was action a fits totals next pin none waste takes bears ready = record {
   fits = fits;

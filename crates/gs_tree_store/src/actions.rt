@@ -10,7 +10,7 @@ use crate::{patches, reads, writes};
 use gs_catalogue::GraphVersion;
 use gs_event::{Action, Answer, UploadKind};
 use gs_model::{LAST_NUMBER, Refusal};
-use gs_term::Triple;
+use gs_triple_lists::TripleList;
 use std::alloc::Global;
 
 /// Any action of the seat of this number.
@@ -64,7 +64,7 @@ fn open(books: &mut Books, seat: &mut Seat, kind: &UploadKind, since: Option<u64
 }
 
 /// The whole piece or nothing.
-fn stage(books: &mut Books, seat: &mut Seat, alloc: Global, triples: &Vec<Triple>) -> Answer
+fn stage(books: &mut Books, seat: &mut Seat, alloc: Global, triples: &TripleList) -> Answer
     requires { IsReadyAny books.old seat.old }
     ensures acts { ActsAny books.old books.new seat.old seat.new (Action.Stage triples.now) result }
     ensures records { KeepsRecords books.old books.new seat.old seat.new (Action.Stage triples.now) result }
@@ -78,7 +78,7 @@ fn stage(books: &mut Books, seat: &mut Seat, alloc: Global, triples: &Vec<Triple
         &mut books.dict,
         &mut books.pool,
         upload.root,
-        triples.as_slice(),
+        triples,
         birth,
     );
     let Ok(merged) = merged else {

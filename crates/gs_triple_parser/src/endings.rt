@@ -5,7 +5,8 @@ ghost use Rattle.gs_model.specs.declared.faults.Fault.{Fault};
 use crate::parser::TripleParser;
 use crate::places::Place;
 use gs_model::Fault;
-use gs_triple_values::{Language, terms};
+use gs_triple_lists::TripleList;
+use gs_triple_values::{Language, Terms, terms};
 use std::alloc::AllocError;
 
 impl<L: Language> TripleParser<L> {
@@ -49,5 +50,22 @@ impl<L: Language> TripleParser<L> {
             Place::Lost(fault) => Ok(*fault),
             _ => Ok(Fault::Syntax),
         }
+    }
+}
+
+impl TripleParser<Terms> {
+    ghost use Rattle.gs_triple_values.specs.Typed.{terms};
+    ghost use Rattle.gs_triple_parser.specs.Views.{context_now, numbers_now, pending_triples};
+
+    /// Hands the triples on in the same way, to a list that keeps a term mostly once.
+    pub fn list_in(&mut self, triples: &mut TripleList) -> Result<(), AllocError>
+        ensures given { OnOk result (triples.new.items ≡ triples.old.items ++ pending_triples self.old) }
+        ensures pending { OnOk result (pending_triples self.new ≡ []) }
+        ensures context { context_now terms self.new ≡ context_now terms self.old }
+        ensures numbers { numbers_now self.new ≡ numbers_now self.old }
+        ensures err { OnErr result (triples.new.items ≡ triples.old.items) }
+    {
+        let pending = &mut self.pending;
+        triples.append(pending)
     }
 }

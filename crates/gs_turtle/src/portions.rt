@@ -10,7 +10,7 @@ ghost use Rattle.gs_turtle.specs.Portions.{TakesAll, ReportsAfter, refusal_of_fa
 use gs_lex::{Advance, PieceLexer};
 use gs_model::{Fault, Refusal};
 use gs_parse::Parser;
-use gs_term::Triple;
+use gs_triple_lists::TripleList;
 use std::alloc::AllocError;
 
 /// Why no token comes next.
@@ -27,7 +27,7 @@ pub fn take_tokens(
     lexer: &mut PieceLexer,
     parser: &mut Parser,
     is_end: bool,
-    triples: &mut Vec<Triple>,
+    triples: &mut TripleList,
 ) -> Result<Stop, AllocError>
     ensures ok { IfOk result (TakesAll is_end lexer.old lexer.new parser.old parser.new
         triples.old.items triples.new.items) }

@@ -7,7 +7,7 @@ use gs_body::BodyReader;
 use gs_lex::PieceLexer;
 use gs_model::Refusal;
 use gs_parse::Parser;
-use gs_term::Triple;
+use gs_triple_lists::TripleList;
 use std::alloc::{AllocError, Global};
 
 /// The most bytes of a piece that a lexer takes at once, so that what it holds does not grow with
@@ -48,7 +48,7 @@ impl TurtleReader {
     }
 
     /// The next portion, and its fault.
-    fn take_portion(&mut self, portion: &[u8], triples: &mut Vec<Triple>) -> Result<(), Refusal>
+    fn take_portion(&mut self, portion: &[u8], triples: &mut TripleList) -> Result<(), Refusal>
         ensures ok { OnOk result (Reads self.old self.new portion.now triples.old.items triples.new.items) }
         ensures err { OnErr result (Begins triples.new.items triples.old.items) }
         ensures fault { IfErr result (IsRefused self.old portion.now) }
@@ -63,7 +63,7 @@ impl TurtleReader {
     }
 
     /// The next piece, and its fault.
-    fn take_piece(&mut self, piece: &[u8], triples: &mut Vec<Triple>) -> Result<(), Refusal>
+    fn take_piece(&mut self, piece: &[u8], triples: &mut TripleList) -> Result<(), Refusal>
         ensures ok { OnOk result (Reads self.old self.new piece.now triples.old.items triples.new.items) }
         ensures err { OnErr result (Begins triples.new.items triples.old.items) }
         ensures fault { IfErr result (IsRefused self.old piece.now) }
@@ -80,7 +80,7 @@ impl TurtleReader {
     }
 
     /// The text ends.
-    fn take_end(&mut self, triples: &mut Vec<Triple>) -> Result<(), Refusal>
+    fn take_end(&mut self, triples: &mut TripleList) -> Result<(), Refusal>
         ensures ok { OnOk result (Finishes meaning_for IsLedBy self.old triples.old.items triples.new.items) }
         ensures err { OnErr result (Begins triples.new.items triples.old.items) }
         ensures fault { IfErr result (IsRefusedAtEnd self.old) }
@@ -102,7 +102,7 @@ impl BodyReader for TurtleReader {
 
     ghost is_closed = { λ r. r.is_closed };
 
-    fn feed(&mut self, piece: &[u8], triples: &mut Vec<Triple>) -> Result<(), Refusal> {
+    fn feed(&mut self, piece: &[u8], triples: &mut TripleList) -> Result<(), Refusal> {
         if self.is_closed {
             return Err(Refusal::Closed);
         }
@@ -117,7 +117,7 @@ impl BodyReader for TurtleReader {
         }
     }
 
-    fn finish(&mut self, triples: &mut Vec<Triple>) -> Result<(), Refusal> {
+    fn finish(&mut self, triples: &mut TripleList) -> Result<(), Refusal> {
         if self.is_closed {
             return Err(Refusal::Closed);
         }

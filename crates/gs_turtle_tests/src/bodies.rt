@@ -3,6 +3,7 @@ use gs_body::BodyReader;
 use gs_model::Refusal;
 use gs_test_readings::SIZES;
 use gs_test_readings::turtle::{lines_as_read, reader};
+use gs_triple_lists::TripleList;
 use gs_turtle::{body_is_read, faulty_body_is_read};
 use std::alloc::{AllocError, Global};
 use std::test::Fail;
@@ -70,7 +71,7 @@ fn a_piece_longer_than_a_portion_is_read(rt: HostRuntime) -> Result<(), Fail> {
 /// How many triples are given of a text before it ends.
 fn given(alloc: Global, text: &[u8]) -> Result<usize, Refusal> {
     let mut reader = reader(alloc, "http://b/")?;
-    let mut triples = Vec::new(alloc);
+    let mut triples = TripleList::new(alloc);
     let fed = reader.feed(text, &mut triples);
     let count = triples.len();
     drop(triples);

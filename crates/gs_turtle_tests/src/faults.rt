@@ -1,9 +1,9 @@
 //! Texts with a fault, and what a refused call leaves.
 use gs_body::BodyReader;
 use gs_model::Refusal;
-use gs_term::Triple;
 use gs_test_readings::SIZES;
 use gs_test_readings::turtle::{fault_of, reader};
+use gs_triple_lists::TripleList;
 use gs_turtle::TurtleReader;
 use std::alloc::Global;
 use std::test::Fail;
@@ -57,7 +57,7 @@ fn the_first_fault_of_a_text_is_reported(rt: HostRuntime) {
 /// Whether something that is no token is reported with its piece, before the text ends.
 fn is_told_at_once(alloc: Global) -> Result<bool, Refusal> {
     let mut reader = reader(alloc, "http://b/")?;
-    let mut triples = Vec::new(alloc);
+    let mut triples = TripleList::new(alloc);
     let fed = reader.feed(b"<b c>", &mut triples);
     drop(triples);
     drop(reader);
@@ -71,7 +71,7 @@ fn what_is_no_token_is_reported_with_its_piece(rt: HostRuntime) -> Result<(), Fa
 }
 
 /// Whether a fault in the second piece is reported, leaves the list, and closes the reader.
-fn leaves(reader: &mut TurtleReader, triples: &mut Vec<Triple>) -> Result<bool, Refusal> {
+fn leaves(reader: &mut TurtleReader, triples: &mut TripleList) -> Result<bool, Refusal> {
     reader.feed(b"<s> <p> <o> .\n", triples)?;
     let before = triples.len();
     let fed = reader.feed(b"<s> <p> <n> . <s> .\n", triples);
@@ -84,7 +84,7 @@ fn leaves(reader: &mut TurtleReader, triples: &mut Vec<Triple>) -> Result<bool, 
 /// The same of a new reader.
 fn fault_leaves(alloc: Global) -> Result<bool, Refusal> {
     let mut reader = reader(alloc, "http://b/")?;
-    let mut triples = Vec::new(alloc);
+    let mut triples = TripleList::new(alloc);
     let answer = leaves(&mut reader, &mut triples);
     drop(triples);
     drop(reader);

@@ -2,8 +2,8 @@
 //! usual answers; `rt try --test --fail-alloc N` refuses the request of that number.
 use gs_body::BodyReader;
 use gs_model::Refusal;
-use gs_term::Triple;
 use gs_test_readings::turtle::reader;
+use gs_triple_lists::TripleList;
 use gs_turtle::TurtleReader;
 use std::alloc::Global;
 use std::test::Fail;
@@ -17,7 +17,7 @@ fn reader_again(alloc: Global) -> Result<TurtleReader, Refusal> {
 }
 
 /// Whether each call is refused, and the list stays so long.
-fn is_closed(reader: &mut TurtleReader, triples: &mut Vec<Triple>, length: usize) -> bool {
+fn is_closed(reader: &mut TurtleReader, triples: &mut TripleList, length: usize) -> bool {
     let was_so = triples.len() == length;
     let first = reader.feed(b"", triples);
     let second = reader.feed(b"<a:b> <a:b> <a:b> .", triples);
@@ -39,7 +39,7 @@ const PIECES: [(&str, usize); 5] = [
 
 /// Feeds the pieces up to the first one that is refused. Gives whether none was, and nothing where a
 /// refusal is another one or leaves something else, or a piece gives other triples.
-fn feed_all(reader: &mut TurtleReader, triples: &mut Vec<Triple>) -> Option<bool> {
+fn feed_all(reader: &mut TurtleReader, triples: &mut TripleList) -> Option<bool> {
     for (piece, length) in &PIECES {
         let before = triples.len();
         if let Err(refusal) = reader.feed(piece.as_bytes(), triples) {
@@ -54,7 +54,7 @@ fn feed_all(reader: &mut TurtleReader, triples: &mut Vec<Triple>) -> Option<bool
 }
 
 /// Whether the text of the pieces ends as it must.
-fn ends(reader: &mut TurtleReader, triples: &mut Vec<Triple>) -> bool {
+fn ends(reader: &mut TurtleReader, triples: &mut TripleList) -> bool {
     match reader.finish(triples) {
         Ok(()) => is_closed(reader, triples, 13),
         Err(refusal) => refusal == Refusal::NoMemory && is_closed(reader, triples, 12),
@@ -62,7 +62,7 @@ fn ends(reader: &mut TurtleReader, triples: &mut Vec<Triple>) -> bool {
 }
 
 /// Whether the pieces are read, or refused, as they must be.
-fn reads_all(reader: &mut TurtleReader, triples: &mut Vec<Triple>) -> bool {
+fn reads_all(reader: &mut TurtleReader, triples: &mut TripleList) -> bool {
     match feed_all(reader, triples) {
         Some(true) => ends(reader, triples),
         Some(false) => true,
@@ -73,7 +73,7 @@ fn reads_all(reader: &mut TurtleReader, triples: &mut Vec<Triple>) -> bool {
 /// The same of a new reader.
 fn are_read(alloc: Global) -> Result<bool, Refusal> {
     let mut reader = reader_again(alloc)?;
-    let mut triples = Vec::new(alloc);
+    let mut triples = TripleList::new(alloc);
     let answer = reads_all(&mut reader, &mut triples);
     drop(triples);
     drop(reader);
@@ -92,7 +92,7 @@ fn is_refused(reported: Result<(), Refusal>, at: u64) -> bool {
 }
 
 /// Whether a fault in the second piece leaves the list.
-fn leaves_after_fault(reader: &mut TurtleReader, triples: &mut Vec<Triple>) -> bool {
+fn leaves_after_fault(reader: &mut TurtleReader, triples: &mut TripleList) -> bool {
     let first = reader.feed(b"<s> <p> <o> . ", triples);
     if first.is_err() {
         return first == Err(Refusal::NoMemory) && is_closed(reader, triples, 0);
@@ -104,7 +104,7 @@ fn leaves_after_fault(reader: &mut TurtleReader, triples: &mut Vec<Triple>) -> b
 /// The same of a new reader.
 fn fault_leaves(alloc: Global) -> Result<bool, Refusal> {
     let mut reader = reader_again(alloc)?;
-    let mut triples = Vec::new(alloc);
+    let mut triples = TripleList::new(alloc);
     let answer = leaves_after_fault(&mut reader, &mut triples);
     drop(triples);
     drop(reader);
@@ -118,7 +118,7 @@ fn a_fault_leaves_the_list(rt: HostRuntime) -> Result<(), Fail> {
 }
 
 /// Whether a fault at the end leaves the list: the last piece may still go on.
-fn leaves_at_end(reader: &mut TurtleReader, triples: &mut Vec<Triple>) -> bool {
+fn leaves_at_end(reader: &mut TurtleReader, triples: &mut TripleList) -> bool {
     let first = reader.feed(b"<s> <p> <o> . [] <p> true.", triples);
     if first.is_err() {
         return first == Err(Refusal::NoMemory) && is_closed(reader, triples, 0);
@@ -134,7 +134,7 @@ fn leaves_at_end(reader: &mut TurtleReader, triples: &mut Vec<Triple>) -> bool {
 /// The same of a new reader.
 fn fault_at_end_leaves(alloc: Global) -> Result<bool, Refusal> {
     let mut reader = reader_again(alloc)?;
-    let mut triples = Vec::new(alloc);
+    let mut triples = TripleList::new(alloc);
     let answer = leaves_at_end(&mut reader, &mut triples);
     drop(triples);
     drop(reader);

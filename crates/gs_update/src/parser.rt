@@ -5,6 +5,7 @@ ghost use Rattle.gs_update_places.specs.Views.{IsSoundPlace};
 
 use gs_event::Op;
 use gs_model::Fault;
+use gs_triple_lists::TripleList;
 use gs_triple_parser::Scope;
 use gs_triple_values::Symbol;
 use gs_update_places::{BlockTurn, Place, Rejection};
@@ -94,10 +95,12 @@ impl UpdateParser {
         match mem::replace(&mut self.place, lost) {
             Place::Inserting(block) => {
                 let (scope, triples) = block.into_parts();
+                let triples = TripleList::of(self.alloc, triples)?;
                 self.conclude(scope, Op::Insert(triples), end)
             }
             Place::Deleting(block) => {
                 let (scope, triples) = block.into_parts();
+                let triples = TripleList::of(self.alloc, triples)?;
                 self.conclude(scope, Op::DeleteData(triples), end)
             }
             Place::Seeking(block) => {

@@ -5,6 +5,7 @@ use gs_iri::is_absolute;
 use gs_model::Refusal;
 use gs_ntwrite::line;
 use gs_term::{Part, Pattern, Triple};
+use gs_triple_lists::TripleList;
 use gs_update::read_update;
 use std::alloc::{AllocError, Global};
 
@@ -50,16 +51,16 @@ fn lines_of_triples(alloc: Global, triples: &[Triple]) -> Result<Vec<Vec<u8>>, R
     Ok(lines)
 }
 
+/// The same of a list of triples.
+fn lines_of_list(alloc: Global, list: &TripleList) -> Result<Vec<Vec<u8>>, Refusal> {
+    let triples = list.to_vec(alloc)?;
+    lines_of_triples(alloc, triples.as_slice())
+}
+
 fn operation_of(alloc: Global, op: &Op) -> Result<Operation, Refusal> {
     let (form, lines) = match op {
-        Op::Insert(triples) => (
-            Form::InsertData,
-            lines_of_triples(alloc, triples.as_slice())?,
-        ),
-        Op::DeleteData(triples) => (
-            Form::DeleteData,
-            lines_of_triples(alloc, triples.as_slice())?,
-        ),
+        Op::Insert(triples) => (Form::InsertData, lines_of_list(alloc, triples)?),
+        Op::DeleteData(triples) => (Form::DeleteData, lines_of_list(alloc, triples)?),
         Op::DeleteWhere(patterns) => (
             Form::DeleteWhere,
             lines_of_patterns(alloc, patterns.as_slice())?,

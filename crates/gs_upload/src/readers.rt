@@ -7,7 +7,7 @@ use crate::languages::Language;
 use gs_body::BodyReader;
 use gs_model::Refusal;
 use gs_ntread::NTriplesReader;
-use gs_term::Triple;
+use gs_triple_lists::TripleList;
 use gs_turtle::TurtleReader;
 use std::alloc::{AllocError, Global};
 
@@ -51,14 +51,14 @@ impl BodyReader for TextReader {
 
     ghost is_closed = { λ r. is_closed_text r };
 
-    fn feed(&mut self, piece: &[u8], triples: &mut Vec<Triple>) -> Result<(), Refusal> {
+    fn feed(&mut self, piece: &[u8], triples: &mut TripleList) -> Result<(), Refusal> {
         match self {
             TextReader::NTriples(reader) => reader.feed(piece, triples),
             TextReader::Turtle(reader) => reader.feed(piece, triples),
         }
     }
 
-    fn finish(&mut self, triples: &mut Vec<Triple>) -> Result<(), Refusal> {
+    fn finish(&mut self, triples: &mut TripleList) -> Result<(), Refusal> {
         match self {
             TextReader::NTriples(reader) => reader.finish(triples),
             TextReader::Turtle(reader) => reader.finish(triples),

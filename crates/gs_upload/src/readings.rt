@@ -10,7 +10,7 @@ use crate::languages::Language;
 use crate::readers::TextReader;
 use gs_body::BodyReader;
 use gs_model::Refusal;
-use gs_term::Triple;
+use gs_triple_lists::TripleList;
 use std::alloc::{AllocError, Global};
 
 /// A text that is read in pieces, cut anywhere. A fault is kept until the text ends.
@@ -60,7 +60,7 @@ impl<R: BodyReader + Drop> Reading<R> {
 
     /// Feeds the next piece, and appends the triples of the statements that are complete now. A
     /// fault is kept, and from that piece on nothing is given.
-    pub fn feed(&mut self, piece: &[u8], triples: &mut Vec<Triple>) -> Result<(), AllocError>
+    pub fn feed(&mut self, piece: &[u8], triples: &mut TripleList) -> Result<(), AllocError>
         ensures given { OnOk result (FeedsPiece R.meaning_of R.Leads R.is_closed self.old self.new
             piece.now triples.old.items triples.new.items) }
         ensures kept { OnErr result (triples.new.items ≡ triples.old.items) }
@@ -79,7 +79,7 @@ impl<R: BodyReader + Drop> Reading<R> {
         &mut self,
         text: &[u8],
         length: usize,
-        triples: &mut Vec<Triple>,
+        triples: &mut TripleList,
     ) -> Result<(), AllocError>
         ensures pieces { OnOk result (FeedsPieces R.meaning_of R.Leads R.is_closed length self.old self.new
             text.now triples.old.items triples.new.items) }
@@ -100,7 +100,7 @@ impl<R: BodyReader + Drop> Reading<R> {
         &mut self,
         text: &[u8],
         length: usize,
-        triples: &mut Vec<Triple>,
+        triples: &mut TripleList,
     ) -> Result<(), AllocError>
         ensures pieces { OnOk result (FeedsPieces R.meaning_of R.Leads R.is_closed length self.old self.new
             text.now triples.old.items triples.new.items) }
@@ -109,7 +109,7 @@ impl<R: BodyReader + Drop> Reading<R> {
         ensures kept { OnErr result (triples.new.items ≡ triples.old.items) }
         ensures refused { OnErr result (IsClosedReading R.is_closed self.new) }
     {
-        let before = triples.as_slice().len();
+        let before = triples.len();
         match self.feed_each(text, length, triples) {
             Ok(()) => Ok(()),
             Err(error) => {
@@ -121,7 +121,7 @@ impl<R: BodyReader + Drop> Reading<R> {
 
     /// The text ends: appends the triples that are complete by that, or gives its first fault, with
     /// its kind and its place.
-    pub fn finish(mut self, triples: &mut Vec<Triple>) -> Result<Option<Refusal>, AllocError>
+    pub fn finish(mut self, triples: &mut TripleList) -> Result<Option<Refusal>, AllocError>
         ensures ended { IfOk result (λ fault. EndsReading R.meaning_of R.Leads R.is_closed self fault
             triples.old.items triples.new.items) }
         ensures kept { OnErr result (triples.new.items ≡ triples.old.items) }

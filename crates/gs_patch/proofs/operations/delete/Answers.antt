@@ -11,7 +11,7 @@ returns-clause-ok c =
     let terms = c.args.dict.now.terms in
     let p = c.args.pool.now in
     let root = c.args.root in
-    let ts = c.args.triples.now in
+    let ts = c.args.triples.now.items in
     let same =
     ap (λ ks. without_triples (graph_of_root terms p root) (map (triple_at terms) ks)) c.as_slice.ensures.value
     ∙ without_known terms p root ts c.in-Ok.keys.items c.requires c.in-Ok.ensures in

@@ -22,4 +22,4 @@ returns-clause-ok c =
     let m = c.in_ok-union.field-0 in
     let of_run = subst (λ (xs : List Key). UnitesAt (key_cmp f.terms) c.args.birth c.args.birth p q c.args.root xs m) c.as_slice.ensures.value c.in_ok-union.ensures.ok in
     let united = subst (λ (n : Numbered). UnitesAt (key_cmp n.terms) c.args.birth c.args.birth p q c.args.root run m) c.new-order.ensures of_run in
-    run_goes_in c.args.birth c.args.dict.now e p q c.args.root c.args.triples.now run m c.run_of.ensures.grows c.len-terms.ensures.distinct c.requires c.in_ok-keys.ensures.ok united
+    run_goes_in c.args.birth c.args.dict.now e p q c.args.root c.args.triples.now.items run m c.run_of.ensures.grows c.len-terms.ensures.distinct c.requires c.in_ok-keys.ensures.ok united

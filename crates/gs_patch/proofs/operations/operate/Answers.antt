@@ -12,8 +12,8 @@ pub returns-in-Ok-clause-ok : goal.returns-in-Ok-clause-ok
 returns-in-Ok-clause-ok c =
     let g = graph_of_root c.args.dict.now.terms c.args.pool.now c.args.root in
     let m = c.in-Ok.merged in
-    let ts = c.as_slice.result.now in
-    let same = ap (with_triples g) c.as_slice.ensures.value ∙ sym (ap (operated g) c.in-Insert.is) in
+    let ts = c.in-Insert.triples.items in
+    let same = sym (ap (operated g) c.in-Insert.is) in
     operates c.args.birth c.args.dict.now c.insert.new.dict c.args.pool.now c.insert.new.pool c.args.root c.args.operation.now (record { root = m.root; added = m.added; removed = 0 })
     (with_triples g ts) c.requires (inr refl) same c.in-Ok.ensures.ok
 
@@ -28,8 +28,8 @@ returns-in_ok-pruned-in-DeleteData-clause-ok c =
     let d = c.args.dict.now in
     let g = graph_of_root d.terms c.args.pool.now c.args.root in
     let m = c.in_ok-pruned-in-DeleteData.pruned in
-    let ts = c.as_slice-in-DeleteData.result.now in
-    let same = ap (without_triples g) c.as_slice-in-DeleteData.ensures.value ∙ sym (ap (operated g) c.in-DeleteData.is) in
+    let ts = c.in-DeleteData.triples.items in
+    let same = sym (ap (operated g) c.in-DeleteData.is) in
     operates c.args.birth d d c.args.pool.now c.delete.new.pool c.args.root c.args.operation.now (record { root = m.root; added = 0; removed = m.removed })
     (without_triples g ts) c.requires (inl refl) same c.in_ok-pruned-in-DeleteData.ensures.ok
 
@@ -38,7 +38,7 @@ returns-in_ok-pruned-in-DeleteWhere-clause-ok c =
     let d = c.args.dict.now in
     let g = graph_of_root d.terms c.args.pool.now c.args.root in
     let m = c.in_ok-pruned-in-DeleteWhere.pruned in
-    let ps = c.as_slice-in-DeleteWhere.result.now in
-    let same = ap (λ xs. without_triples g (instances_of g xs)) c.as_slice-in-DeleteWhere.ensures.value ∙ sym (ap (operated g) c.in-DeleteWhere.is) in
+    let ps = c.as_slice.result.now in
+    let same = ap (λ xs. without_triples g (instances_of g xs)) c.as_slice.ensures.value ∙ sym (ap (operated g) c.in-DeleteWhere.is) in
     operates c.args.birth d d c.args.pool.now c.delete_instances.new.pool c.args.root c.args.operation.now (record { root = m.root; added = 0; removed = m.removed })
     (without_triples g (instances_of g ps)) c.requires (inl refl) same c.in_ok-pruned-in-DeleteWhere.ensures.ok

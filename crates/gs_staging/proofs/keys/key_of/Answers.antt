@@ -1,32 +1,38 @@
-use Rattle.std.proofs.Common.{inl, inr, subst, ◌∙◌}
-use Rattle.gs_dict.specs.Numbering.{IsNumberOf}
-use Rattle.gs_staging.specs.Keys.{GivesOnly, IsTermOf}
-use Rattle.gs_staging.proofs.KeyLemmas.{interned_grows, interned_number, interned_only, grows_twice, number_kept, only_twice}
+use Rattle.gs_triple_lists.specs.Kept.{triple_of_numbers}
+use Rattle.gs_staging.proofs.KeyLemmas.{interned_grows, interned_number, grows_twice, number_kept, triple_grows, triple_only}
 use Rattle.gs_staging.proofs.keys.key_of.Goals as goal
+
+pub returns-in_err-object-clause-grows : goal.returns-in_err-object-clause-grows
+returns-in_err-object-clause-grows c =
+    let t = triple_of_numbers c.args.terms.now c.args.numbers in
+    triple_grows t c.args.dict.now c.number_of.new.dict c.number_of-2.new.dict c.number_of-3.new.dict c.number_of.result c.number_of-2.result c.number_of-3.result c.number_of.ensures c.number_of-2.ensures c.number_of-3.ensures
+
+pub returns-in_err-object-clause-only : goal.returns-in_err-object-clause-only
+returns-in_err-object-clause-only c =
+    let t = triple_of_numbers c.args.terms.now c.args.numbers in
+    triple_only t c.args.dict.now c.number_of.new.dict c.number_of-2.new.dict c.number_of-3.new.dict c.number_of.result c.number_of-2.result c.number_of-3.result c.number_of.ensures c.number_of-2.ensures c.number_of-3.ensures
+
+pub returns-clause-grows : goal.returns-clause-grows
+returns-clause-grows c =
+    let t = triple_of_numbers c.args.terms.now c.args.numbers in
+    triple_grows t c.args.dict.now c.number_of.new.dict c.number_of-2.new.dict c.number_of-3.new.dict c.number_of.result c.number_of-2.result c.number_of-3.result c.number_of.ensures c.number_of-2.ensures c.number_of-3.ensures
 
 pub returns-clause-only : goal.returns-clause-only
 returns-clause-only c =
-    let d = c.args.dict.now in
-    let e = c.intern_near.new.self in
-    let f = c.intern.new.self in
-    let g = c.intern_near-2.new.self in
-    let t = c.args.triple.now in
-    let subject : GivesOnly (IsTermOf t) d.terms e.terms = only_twice d.terms d.terms e.terms (λ n u old. inl old) (λ u is. inl (is ∙ c.subject.ensures)) (interned_only d c.subject.result.now c.intern_near.result e c.intern_near.ensures) in
-    let predicate : GivesOnly (IsTermOf t) d.terms f.terms = only_twice d.terms e.terms f.terms subject (λ u is. inr (inl (is ∙ c.predicate.ensures))) (interned_only e c.predicate.result.now c.intern.result f c.intern.ensures.value) in
-    only_twice d.terms f.terms g.terms predicate (λ u is. inr (inr (is ∙ c.object.ensures))) (interned_only f c.object.result.now c.intern_near-2.result g c.intern_near-2.ensures)
+    let t = triple_of_numbers c.args.terms.now c.args.numbers in
+    triple_only t c.args.dict.now c.number_of.new.dict c.number_of-2.new.dict c.number_of-3.new.dict c.number_of.result c.number_of-2.result c.number_of-3.result c.number_of.ensures c.number_of-2.ensures c.number_of-3.ensures
 
 pub returns-clause-ok : goal.returns-clause-ok
 returns-clause-ok c =
     let d = c.args.dict.now in
-    let e = c.intern_near.new.self in
-    let f = c.intern.new.self in
-    let g = c.intern_near-2.new.self in
-    let first = interned_grows e c.predicate.result.now c.intern.result f c.intern.ensures.value in
-    let second = interned_grows f c.object.result.now c.intern_near-2.result g c.intern_near-2.ensures in
+    let e = c.number_of.new.dict in
+    let f = c.number_of-2.new.dict in
+    let g = c.number_of-3.new.dict in
+    let t = triple_of_numbers c.args.terms.now c.args.numbers in
+    let first = interned_grows e t.predicate c.number_of-2.result f c.number_of-2.ensures in
+    let second = interned_grows f t.object c.number_of-3.result g c.number_of-3.ensures in
     record {
-      subject = subst (IsNumberOf g.terms c.in_ok-subject.subject.number) c.subject.ensures
-          (number_kept e g (grows_twice e f g first second) c.in_ok-subject.subject.number c.subject.result.now (interned_number d c.subject.result.now c.in_ok-subject.subject e c.in_ok-subject.ensures));
-      predicate = subst (IsNumberOf g.terms c.in_ok-predicate.predicate.number) c.predicate.ensures
-          (number_kept f g second c.in_ok-predicate.predicate.number c.predicate.result.now (interned_number e c.predicate.result.now c.in_ok-predicate.predicate f c.in_ok-predicate.ensures.value));
-      object = subst (IsNumberOf g.terms c.in_ok-object.object.number) c.object.ensures (interned_number f c.object.result.now c.in_ok-object.object g c.in_ok-object.ensures);
+      subject = number_kept e g (grows_twice e f g first second) c.in_ok-subject.subject.number t.subject (interned_number d t.subject c.in_ok-subject.subject e c.in_ok-subject.ensures);
+      predicate = number_kept f g second c.in_ok-predicate.predicate.number t.predicate (interned_number e t.predicate c.in_ok-predicate.predicate f c.in_ok-predicate.ensures);
+      object = interned_number f t.object c.in_ok-object.object g c.in_ok-object.ensures;
     }

@@ -19,8 +19,8 @@ returns-clause-ok c =
     let p = c.args.pool.now in
     let q = c.unite.new.pool in
     let run = c.in_ok-keys.keys.items in
-    IfOk-weaker c.unite.result (UnitesAt (key_cmp f.terms) 0 c.args.birth p q c.args.root c.as_slice.result.now) (Stages c.args.birth d.terms e.terms p q c.args.root c.args.triples.now)
+    IfOk-weaker c.unite.result (UnitesAt (key_cmp f.terms) 0 c.args.birth p q c.args.root c.as_slice.result.now) (Stages c.args.birth d.terms e.terms p q c.args.root c.args.triples.now.items)
     (λ m united.
     let of_run = subst (λ xs. UnitesAt (key_cmp f.terms) 0 c.args.birth p q c.args.root xs m) c.as_slice.ensures.value united in
     let here = subst (λ n. UnitesAt (key_cmp n.terms) 0 c.args.birth p q c.args.root run m) c.new-order.ensures of_run in
-    stages c.args.birth d e p q c.args.root c.args.triples.now run m c.run_of.ensures.grows c.len-terms.ensures.distinct c.requires.staged c.in_ok-keys.ensures.ok here) c.unite.ensures.ok
+    stages c.args.birth d e p q c.args.root c.args.triples.now.items run m c.run_of.ensures.grows c.len-terms.ensures.distinct c.requires.staged c.in_ok-keys.ensures.ok here) c.unite.ensures.ok

@@ -15,11 +15,11 @@ pub overflow_add-upload : goal.overflow_add-upload
 overflow_add-upload c =
     let used = c.nodes_in_use-used.ensures in
     let few : c.in-Writing.upload.triples + c.in-Ok.merged.added < 2 ^ 32 =
-    few_triples c.args.books.now c.args.seat.now c.in-Writing.field-0 c.in-Writing.field-1 _ c.in-Writing.upload c.in-Writing.field-3 c.in-Writing.field-4 c.stage-merged.new.dict c.stage-merged.new.pool c.as_slice.result.now c.in-Ok.merged
+    few_triples c.args.books.now c.args.seat.now c.in-Writing.field-0 c.in-Writing.field-1 _ c.in-Writing.upload c.in-Writing.field-3 c.in-Writing.field-4 c.stage-merged.new.dict c.stage-merged.new.pool c.args.triples.now.items c.in-Ok.merged
     c.in-Writing.is (omega (arith, used.fits, used.small)) c.in-Ok.ensures.ok c.requires in
     omega (arith, few)
 
 pub returns-clause-acts : goal.returns-clause-acts
 returns-clause-acts c =
-    stage_done c.args.books.now c.args.seat.now c.in-Writing.field-0 c.in-Writing.field-1 _ c.in-Writing.upload c.in-Writing.field-3 c.in-Writing.field-4 c.args.triples.now c.as_slice.result.now c.stage-merged.new.dict c.stage-merged.new.pool c.in-Ok.merged
-    c.in-Writing.is c.as_slice.ensures.value (omega (arith, c.commit-birth.ensures)) c.in-Ok.ensures.grows c.in-Ok.ensures.ok
+    stage_done c.args.books.now c.args.seat.now c.in-Writing.field-0 c.in-Writing.field-1 _ c.in-Writing.upload c.in-Writing.field-3 c.in-Writing.field-4 c.args.triples.now c.stage-merged.new.dict c.stage-merged.new.pool c.in-Ok.merged
+    c.in-Writing.is (omega (arith, c.commit-birth.ensures)) c.in-Ok.ensures.grows c.in-Ok.ensures.ok

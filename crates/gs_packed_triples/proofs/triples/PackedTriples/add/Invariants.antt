@@ -1,9 +1,13 @@
-use Rattle.std.proofs.Common.{◌≡◌, ◌++◌, take, drop}
+use Rattle.std.proofs.Common.{◌≡◌, ◌++◌, length}
+use Rattle.gs_triple_lists.specs.Readers.{listed_left}
 use Rattle.gs_packed_triples.specs.Triples.{packed_triples, HasRoomFor}
 use Rattle.gs_packed_triples.proofs.triples.PackedTriples.add.Given as goal
 
 abbrev pub invariant-loop-triple : goal.invariant-loop-triple
 invariant-loop-triple l = record {
-  triples : packed_triples l.self ≡ packed_triples l.initial.self ++ take l.triple-index l.list;
-  room : HasRoomFor l.self (drop l.triple-index l.list);
+  triples : packed_triples l.self ++ listed_left l.left ≡ packed_triples l.initial.self ++ l.fn.list.items;
+  room : HasRoomFor l.self (listed_left l.left);
 }
+
+abbrev pub decreases-loop-triple : goal.decreases-loop-triple
+decreases-loop-triple l = length (listed_left l.left)

@@ -1,6 +1,7 @@
 use Rattle.std.proofs.Common.{ℕ, sym, ap, ◌∙◌, subst}
 use Rattle.std.specs.Prelude.{◌==◌, Some, None}
 use Rattle.std.proofs.lemmas.Result.{on_ok_weaker}
+use Rattle.gs_triple_lists.specs.Lists.{Listed}
 use Rattle.gs_triple_values.specs.Typed.{terms, patterns}
 use Rattle.gs_triple_parser.specs.Views.{scope_context, scope_numbers, numbers_now}
 use Rattle.gs_update_text.specs.Requests.{Inserts, DeletesData, DeletesWhere}
@@ -13,26 +14,28 @@ use Rattle.gs_update_places.specs.declared.places.Place.TheVariants as place
 use Rattle.gs_update.proofs.PlaceLemmas.{are_some, are_none, concluded_alike, closes, closes_nothing, led_there}
 use Rattle.gs_update.proofs.parser.UpdateParser.shut.Goals as goal
 
-pub returns-in-Inserting : goal.returns-in-Inserting
-returns-in-Inserting c =
+pub returns-in_ok-triples-in-Inserting : goal.returns-in_ok-triples-in-Inserting
+returns-in_ok-triples-in-Inserting c =
     let b = c.in-Inserting.block in
     let s = c.into_parts-scope.result.0 in
-    let P = c.into_parts-scope.result.1.items in
+    let P = c.in_ok-triples-in-Inserting.triples.items in
     on_ok_weaker c.conclude.result
     (closes c.args.self.now c.replace.new.dest c.conclude.new.self (place.Inserting b) c.args.end (concluded (Some (Inserts P)) (scope_context s) (scope_numbers s) c.args.end)
     (concluded_alike s (scope_of terms b) (numbers_now b.parser) (Some (Inserts P)) (Some (Inserts b.triples.items)) c.args.end
-    c.into_parts-scope.ensures.context c.into_parts-scope.ensures.numbers (ap (λ Q. Some (Inserts Q)) c.into_parts-scope.ensures.triples)) c.in-Inserting.ensures.value)
+    c.into_parts-scope.ensures.context c.into_parts-scope.ensures.numbers
+    (ap (λ (l : Listed). Some (Inserts l.items)) c.in_ok-triples-in-Inserting.ensures ∙ ap (λ Q. Some (Inserts Q)) c.into_parts-scope.ensures.triples)) c.in-Inserting.ensures.value)
     c.conclude.ensures
 
-pub returns-in-Deleting : goal.returns-in-Deleting
-returns-in-Deleting c =
+pub returns-in_ok-triples-in-Deleting : goal.returns-in_ok-triples-in-Deleting
+returns-in_ok-triples-in-Deleting c =
     let b = c.in-Deleting.block in
     let s = c.into_parts-scope-in-Deleting.result.0 in
-    let P = c.into_parts-scope-in-Deleting.result.1.items in
+    let P = c.in_ok-triples-in-Deleting.triples.items in
     on_ok_weaker c.conclude-in-Deleting.result
     (closes c.args.self.now c.replace.new.dest c.conclude-in-Deleting.new.self (place.Deleting b) c.args.end (concluded (Some (DeletesData P)) (scope_context s) (scope_numbers s) c.args.end)
     (concluded_alike s (scope_of terms b) (numbers_now b.parser) (Some (DeletesData P)) (Some (DeletesData b.triples.items)) c.args.end
-    c.into_parts-scope-in-Deleting.ensures.context c.into_parts-scope-in-Deleting.ensures.numbers (ap (λ Q. Some (DeletesData Q)) c.into_parts-scope-in-Deleting.ensures.triples)) c.in-Deleting.ensures.value)
+    c.into_parts-scope-in-Deleting.ensures.context c.into_parts-scope-in-Deleting.ensures.numbers
+    (ap (λ (l : Listed). Some (DeletesData l.items)) c.in_ok-triples-in-Deleting.ensures ∙ ap (λ Q. Some (DeletesData Q)) c.into_parts-scope-in-Deleting.ensures.triples)) c.in-Deleting.ensures.value)
     c.conclude-in-Deleting.ensures
 
 pub returns-then-is_empty : goal.returns-then-is_empty

@@ -1,0 +1,10 @@
+//! Lists of triples: each term once, and three numbers a triple.
+#![tactic(auto)]
+
+mod lists;
+mod orders;
+mod readers;
+mod tables;
+
+pub use lists::{TripleList, TripleNumbers};
+pub use readers::{ListedTriple, ListedTriples};

@@ -1,0 +1,221 @@
+//! Lists of triples.
+ghost use Rattle.std.specs.Prelude.{◌≡◌, ◌==◌, [], ◌∷◌, ◌++◌, length, take, slice_get, Some, IfOk, IfSome, OnOk, OnErr};
+ghost use Rattle.gs_triple_lists.specs.Lists.{listed};
+ghost use Rattle.gs_triple_lists.specs.Kept.{HasMore, AreNumbersOf, AreTriplesIn, triples_of_numbers};
+ghost use Rattle.gs_triple_lists.specs.Readers.{listed_left};
+ghost use Rattle.gs_triple_lists.specs.Orders.{IsOrderOf};
+
+use crate::orders::{Order, is_rising, sorted};
+use crate::readers::ListedTriples;
+use crate::tables::TermTable;
+use gs_term::{TermText, Triple};
+use std::alloc::{AllocError, Global};
+use std::marker::Model;
+
+/// The ranks of the terms of so few triples cost more than they spare the store.
+const SHORT: usize = 4_096;
+
+/// A triple, by the numbers that its terms have in its list.
+#[derive(Clone, Copy, Debug, Drop)]
+pub struct TripleNumbers {
+    pub subject: u32,
+    pub predicate: u32,
+    pub object: u32,
+}
+
+/// Triples in the order in which they came, with repeats: a table of their terms, each mostly once, and
+/// three numbers a triple. Besides, its triples in order, where that was asked for since it last changed;
+/// they stand apart, where they did not come in order. A contract sees the triples.
+#[derive(Debug, Drop)]
+pub struct TripleList {
+    table: TermTable,
+    numbers: Vec<TripleNumbers>,
+    order: Order,
+    apart: Vec<TripleNumbers>,
+}
+
+impl Model for TripleList {
+    ghost use Rattle.gs_triple_lists.specs.Lists.{Listed, listed_code, listed};
+
+    ghost Value = { Listed };
+
+    ghost coded = { listed_code };
+
+    ghost use Rattle.gs_triple_lists.specs.Kept.{triples_of_numbers, AreTriplesIn};
+    ghost use Rattle.gs_triple_lists.specs.Orders.{IsOrdered};
+
+    ghost view = { λ l. listed (triples_of_numbers l.table.terms.items l.numbers.items) };
+
+    ghost invariant = { λ l. AreTriplesIn l.table.terms.items l.numbers.items
+        × IsOrdered l.order l.table.terms.items l.numbers.items l.apart.items };
+}
+
+/// A number of a triple's subject, which is mostly that of the triple before.
+fn subject_number(
+    table: &mut TermTable,
+    numbers: &[TripleNumbers],
+    subject: TermText,
+) -> Result<u32, AllocError>
+    ensures more { HasMore table.old.terms.items table.new.terms.items }
+    ensures ok { IfOk result (λ n. slice_get table.new.terms.items n ≡ Some subject) }
+{
+    match numbers.last() {
+        Some(last) if table.is_number_of(last.subject, &subject) => Ok(last.subject),
+        _ => table.number_of(subject),
+    }
+}
+
+/// Numbers of a triple's terms, where these triples are in the list.
+fn numbers_of(
+    table: &mut TermTable,
+    numbers: &[TripleNumbers],
+    triple: Triple,
+) -> Result<TripleNumbers, AllocError>
+    ensures more { HasMore table.old.terms.items table.new.terms.items }
+    ensures ok { IfOk result (AreNumbersOf table.new.terms.items triple) }
+{
+    // For the proof that these numbers are a triple's.
+    triple.known();
+    let (subject, predicate, object) = triple.into_terms();
+    let subject = subject_number(table, numbers, subject)?;
+    let predicate = table.number_of(predicate)?;
+    let object = table.number_of(object)?;
+    Ok(TripleNumbers {
+        subject,
+        predicate,
+        object,
+    })
+}
+
+impl TripleList {
+    /// Without triples. Takes no memory.
+    pub fn new(alloc: Global) -> TripleList
+        ensures { result ≡ listed [] }
+    {
+        TripleList {
+            table: TermTable::new(alloc),
+            numbers: Vec::new(alloc),
+            order: Order::Unknown,
+            apart: Vec::new(alloc),
+        }
+    }
+
+    /// How many triples there are.
+    pub fn len(&self) -> usize
+        ensures { result ≡ length self.now.items }
+    {
+        self.numbers.len()
+    }
+
+    /// Whether there is none.
+    pub fn is_empty(&self) -> bool
+        ensures { result ≡ (length self.now.items == 0) }
+    {
+        self.len() == 0
+    }
+
+    /// Its terms, by number, and the numbers of each triple's terms.
+    pub fn parts(&self) -> (&[TermText], &[TripleNumbers])
+        ensures triples { triples_of_numbers result.0.now result.1.now ≡ self.now.items }
+        ensures known { AreTriplesIn result.0.now result.1.now }
+    {
+        (self.table.terms.as_slice(), self.numbers.as_slice())
+    }
+
+    /// A reader of its triples, the first one first.
+    pub fn triples(&self) -> ListedTriples<'_>
+        ensures { listed_left result ≡ self.now.items }
+    {
+        let (terms, numbers) = self.parts();
+        ListedTriples::new(terms, numbers)
+    }
+
+    /// Adds a triple. Where memory is refused, nothing is added.
+    pub fn push(&mut self, triple: Triple) -> Result<(), AllocError>
+        ensures added { OnOk result (self.new ≡ listed (self.old.items ++ triple ∷ [])) }
+        ensures kept { OnErr result (self.new ≡ self.old) }
+    {
+        self.order = Order::Unknown;
+        self.numbers.reserve(1)?;
+        let three = numbers_of(&mut self.table, &self.numbers, triple)?;
+        self.numbers.push_reserved(three);
+        Ok(())
+    }
+
+    /// Moves these triples to the end, in their order. Where memory is refused, none is added.
+    pub fn append(&mut self, triples: &mut Vec<Triple>) -> Result<(), AllocError>
+        ensures added { OnOk result (self.new ≡ listed (self.old.items ++ triples.old.items)) }
+        ensures taken { OnOk result (triples.new.items ≡ []) }
+        ensures kept { OnErr result (self.new ≡ self.old) }
+    {
+        let count = self.len();
+        triples.reverse();
+        while let Some(triple) = triples.pop() {
+            if let Err(refused) = self.push(triple) {
+                self.truncate(count);
+                return Err(refused);
+            }
+        }
+        Ok(())
+    }
+
+    /// A list of these triples.
+    pub fn of(alloc: Global, mut triples: Vec<Triple>) -> Result<TripleList, AllocError>
+        ensures { IfOk result (λ l. l ≡ listed triples.items) }
+    {
+        let mut list = TripleList::new(alloc);
+        list.append(&mut triples)?;
+        Ok(list)
+    }
+
+    /// Its triples, each with terms of its own.
+    pub fn to_vec(&self, alloc: Global) -> Result<Vec<Triple>, AllocError>
+        ensures { IfOk result (λ v. v.items ≡ self.now.items) }
+    {
+        let mut triples = Vec::with_capacity(alloc, self.len())?;
+        let mut left = self.triples();
+        while let Some(triple) = left.next() {
+            triples.push(triple.to_triple()?)?;
+        }
+        Ok(triples)
+    }
+
+    /// Leaves the first triples, so many.
+    pub fn truncate(&mut self, count: usize)
+        ensures { self.new ≡ listed (take count self.old.items) }
+    {
+        self.order = Order::Unknown;
+        self.numbers.truncate(count);
+    }
+
+    /// Puts its triples in order, for `ordered_parts`, until the list is changed. The triples stay as they
+    /// came. Where memory is refused, they are in no order, and so are at most 4,096 that do not rise.
+    pub fn put_in_order(&mut self) -> Result<(), AllocError>
+        ensures { self.new ≡ self.old }
+    {
+        if is_rising(&self.table.terms, &self.numbers) {
+            self.order = Order::AsTheyCame;
+            return Ok(());
+        }
+        if self.numbers.len() <= SHORT {
+            return Ok(());
+        }
+        let alloc = *self.numbers.allocator();
+        self.apart = sorted(alloc, &self.table.terms, &self.numbers)?;
+        self.order = Order::Apart;
+        Ok(())
+    }
+
+    /// Its terms, by number, and the numbers of its triples in order, each once, where they were put in
+    /// order.
+    pub fn ordered_parts(&self) -> Option<(&[TermText], &[TripleNumbers])>
+        ensures { IfSome result (λ p. IsOrderOf p.0.now self.now.items p.1.now) }
+    {
+        let numbers = match self.order {
+            Order::Unknown => return None,
+            Order::AsTheyCame => self.numbers.as_slice(),
+            Order::Apart => self.apart.as_slice(),
+        };
+        Some((self.table.terms.as_slice(), numbers))
+    }
+}

@@ -1,0 +1,15 @@
+//! Tests of gs_triple_lists: which terms a list keeps once, and what a refused request for memory leaves.
+#![tactic(auto)]
+
+#[cfg(test)]
+mod buckets;
+#[cfg(test)]
+mod counts;
+#[cfg(test)]
+mod lists;
+#[cfg(test)]
+mod outcome;
+#[cfg(test)]
+mod refusals;
+#[cfg(test)]
+mod rows;
