@@ -2,3 +2,4 @@
 pub mod Packing
 pub mod Kept
 pub mod Texts
+pub mod Closed

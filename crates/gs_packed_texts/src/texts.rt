@@ -2,6 +2,7 @@
 ghost use Rattle.std.specs.Prelude.{◌≡◌, ◌+◌, ◌≤◌, ◌++◌, length, vec_len, vec_capacity};
 ghost use Rattle.gs_packed_texts.specs.Kept.{IsPacked};
 
+use crate::closed::ClosedTexts;
 use crate::counts::push_count;
 use crate::places::placed;
 use crate::readers::Texts;
@@ -47,6 +48,7 @@ fn fit<T>(list: &mut Vec<T>)
 impl PackedTexts {
     ghost use Rattle.std.specs.Prelude.{◌≡◌, ◌+◌, ◌≤◌, ℕ, [], ◌∷◌, ◌++◌, length, OnOk};
     ghost use Rattle.gs_packed_texts.specs.Texts.{texts_of, left_of, own_bytes, own_room, HasRoom};
+    ghost use Rattle.gs_packed_texts.specs.Closed.{closed_texts};
 
     /// No texts. Takes no memory.
     pub fn new(alloc: Global) -> PackedTexts
@@ -103,6 +105,21 @@ impl PackedTexts {
         fit(&mut self.marks);
         fit(&mut self.counts);
         fit(&mut self.bytes);
+    }
+
+    /// The same texts, in as little room as `close` leaves, with nothing of what comes next. For texts
+    /// after which no more will come.
+    pub fn closed(mut self) -> ClosedTexts
+        ensures { closed_texts result ≡ texts_of self }
+    {
+        self.close();
+        let PackedTexts {
+            marks,
+            counts,
+            bytes,
+            ..
+        } = self;
+        ClosedTexts::new(marks, counts, bytes)
     }
 
     /// For how many bytes of their own there is room, those of the texts that are there too.

@@ -8,8 +8,8 @@ use std::alloc::Global;
 use std::hash::{FoldHasher, Hasher};
 use std::test::Fail;
 
-/// How many triples a list has whose objects share a bucket, where the first one's object is the last one's
-/// once more; and how many terms are kept, with the subject, which is the predicate too.
+/// How many triples with objects of one bucket a list has, after which the first of them comes again; and how
+/// many terms are kept, with the subject, which is the predicate too.
 const ROWS: [(usize, usize); 5] = [(1, 2), (15, 16), (16, 17), (17, 19), (24, 26)];
 
 /// The bucket of a term.

@@ -1,4 +1,5 @@
-//! Tests of gs_triple_lists: which terms a list keeps once, and what a refused request for memory leaves.
+//! Tests of gs_triple_lists: which terms a list keeps once, what it gives in order, and what a refused
+//! request for memory leaves.
 #![tactic(auto)]
 
 #[cfg(test)]
@@ -7,6 +8,8 @@ mod buckets;
 mod counts;
 #[cfg(test)]
 mod lists;
+#[cfg(test)]
+mod orders;
 #[cfg(test)]
 mod outcome;
 #[cfg(test)]

@@ -1,0 +1,129 @@
+//! Terms of a list packed, and where each is.
+ghost use Rattle.std.specs.Prelude.{◌≡◌, ◌≤◌, ◌^◌, length};
+ghost use Rattle.std.specs.List.{All};
+ghost use Rattle.std.proofs.Props.{props};
+ghost use Rattle.gs_model.specs.Texts.{IsCanonical};
+ghost use Rattle.gs_packed_texts.specs.Texts.{texts_of};
+ghost use Rattle.gs_small_triples.specs.Kept.{IsBelow, moved, numbers_in};
+ghost use Rattle.gs_small_triples.specs.Props.{IsText-prop};
+
+use crate::numbers::Numbers;
+use gs_packed_texts::PackedTexts;
+use gs_term::TermText;
+use gs_triple_lists::TripleNumbers;
+use std::alloc::{AllocError, Global};
+
+/// Texts of terms, and for each number of a term the place of its text.
+#[derive(Drop)]
+pub struct Packing {
+    pub texts: PackedTexts,
+    places: Vec<u32>,
+    count: usize,
+    ghost counted: { count ≡ length (texts_of texts) },
+    ghost few: { count ≤ 2 ^ 32 },
+    ghost canonical: { All IsCanonical (texts_of texts) } by { Prim.hlevel (IsText-prop, props) },
+}
+
+/// The numbers by which a triple's terms are packed.
+fn moved_numbers(places: &[u32], numbers: TripleNumbers) -> TripleNumbers
+    requires { IsBelow (length places.now) numbers }
+    ensures { result ≡ moved places.now numbers }
+{
+    TripleNumbers {
+        subject: places[numbers.subject as usize],
+        predicate: places[numbers.predicate as usize],
+        object: places[numbers.object as usize],
+    }
+}
+
+impl Packing {
+    ghost use Rattle.std.specs.Prelude.{◌≡◌, ◌<◌, ℕ, length, map, IfOk, OnOk};
+    ghost use Rattle.std.specs.List.{All};
+    ghost use Rattle.gs_model.specs.Triples.{is_iri};
+    ghost use Rattle.gs_triple_lists.specs.Kept.{term_of_number};
+    ghost use Rattle.gs_small_triples.specs.Packed.{IsPlaced, StayPlaced, ArePlaced, HavePlaces};
+
+    /// No texts, and a place yet to be noted for each of so many terms.
+    fn new(alloc: Global, terms: usize) -> Result<Packing, AllocError>
+        ensures { IfOk result (λ p. length p.places.items ≡ terms) }
+    {
+        let mut texts = PackedTexts::new(alloc);
+        texts.make_room(terms, 0)?;
+        let places = vec![in alloc; 0u32; terms]?;
+        Ok(Packing {
+            texts,
+            places,
+            count: 0,
+        })
+    }
+
+    /// Packs the term of a number.
+    fn pack(&mut self, terms: &[TermText], number: usize) -> Result<(), AllocError>
+        requires inside { number < length terms.now }
+        requires noted { length self.old.places.items ≡ length terms.now }
+        ensures noted { length self.new.places.items ≡ length terms.now }
+        ensures placed { OnOk result (IsPlaced terms.now self.new number) }
+        ensures stay { StayPlaced terms.now self.old self.new }
+    {
+        let Ok(place) = u32::try_from(self.count) else {
+            return Err(AllocError);
+        };
+        let text = terms[number].as_bytes();
+        self.texts.make_room(1, text.len())?;
+        self.texts.push(text);
+        self.count += 1;
+        self.places[number] = place;
+        Ok(())
+    }
+
+    /// Packs the term of a number if it is an IRI, or if it is not, as is asked.
+    fn pack_if(&mut self, terms: &[TermText], number: usize, iris: bool) -> Result<(), AllocError>
+        requires inside { number < length terms.now }
+        requires noted { length self.old.places.items ≡ length terms.now }
+        ensures noted { length self.new.places.items ≡ length terms.now }
+        ensures placed { OnOk result (is_iri (term_of_number terms.now number) ≡ iris
+            → IsPlaced terms.now self.new number) }
+        ensures stay { StayPlaced terms.now self.old self.new }
+    {
+        if terms[number].is_iri() != iris {
+            return Ok(());
+        }
+        self.pack(terms, number)
+    }
+
+    /// Packs the terms that are IRIs, or those that are not.
+    fn pack_kind(&mut self, terms: &[TermText], iris: bool) -> Result<(), AllocError>
+        requires noted { length self.old.places.items ≡ length terms.now }
+        ensures noted { length self.new.places.items ≡ length terms.now }
+        ensures placed { OnOk result ((k : ℕ) → k < length terms.now
+            → is_iri (term_of_number terms.now k) ≡ iris → IsPlaced terms.now self.new k) }
+        ensures stay { StayPlaced terms.now self.old self.new }
+    {
+        for number in 0..terms.len() {
+            self.pack_if(terms, number, iris)?;
+        }
+        Ok(())
+    }
+
+    /// Terms packed, the IRIs first, as these mostly begin alike.
+    pub fn of(alloc: Global, terms: &[TermText]) -> Result<Packing, AllocError>
+        ensures placed { IfOk result (ArePlaced terms.now) }
+    {
+        let mut packing = Packing::new(alloc, terms.len())?;
+        packing.pack_kind(terms, true)?;
+        packing.pack_kind(terms, false)?;
+        Ok(packing)
+    }
+
+    /// Numbers of triples, moved to the places of their terms.
+    pub fn numbers(&self, alloc: Global, numbers: &[TripleNumbers]) -> Result<Numbers, AllocError>
+        requires { All (HavePlaces self.now) numbers.now }
+        ensures { IfOk result (λ n. numbers_in n ≡ map (moved self.now.places.items) numbers.now) }
+    {
+        let mut kept = Numbers::new(alloc, self.count, numbers.len())?;
+        for three in numbers {
+            kept.push(moved_numbers(&self.places, *three))?;
+        }
+        Ok(kept)
+    }
+}
