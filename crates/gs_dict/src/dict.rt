@@ -170,9 +170,8 @@ impl Dict {
         Ok(TermId { number })
     }
 
-    /// The same, with a number to try first, which saves the hash and the walk of the chain where it
-    /// is the term's: the last subject's number, as a subject mostly comes again, or one of
-    /// `guesses`.
+    /// The number of a term, as `intern` gives it, with a number to try first: a guess that the caller
+    /// has, as one of `guesses`. Where it is the term's, the hash and the walk of the chain are saved.
     pub fn intern_near(&mut self, guess: TermId, term: &TermText) -> Result<TermId, Refusal>
         ensures { Interns self.old term.now result self.new }
     {

@@ -71,7 +71,8 @@ fn key_of(
     })
 }
 
-/// The same, with guesses of the terms' numbers.
+/// The keys of triples of a list, in their order, in one reserved list, with a guess of each term's
+/// number to try first.
 fn keys_by(
     alloc: Global,
     dict: &mut Dict,
@@ -81,8 +82,10 @@ fn keys_by(
 ) -> Result<Vec<Key>, Refusal>
     requires { AreTriplesIn terms.now numbers.now }
     ensures grows { Grows dict.old dict.new }
-    ensures only { GivesOnly (IsTermIn (triples_of_numbers terms.now numbers.now)) dict.old.terms dict.new.terms }
-    ensures ok { IfOk result (λ keys. AreKeysOf dict.new.terms (triples_of_numbers terms.now numbers.now) keys.items) }
+    ensures only { GivesOnly (IsTermIn (triples_of_numbers terms.now numbers.now)) dict.old.terms
+        dict.new.terms }
+    ensures ok { IfOk result (λ keys. AreKeysOf dict.new.terms (triples_of_numbers terms.now numbers.now)
+        keys.items) }
     ensures refused { IfErr result (λ r. r ≡ NoMemory) }
 {
     let mut keys = Vec::with_capacity(alloc, numbers.len())?;
@@ -103,8 +106,10 @@ pub fn keys_of(
 ) -> Result<Vec<Key>, Refusal>
     requires { AreTriplesIn terms.now numbers.now }
     ensures grows { Grows dict.old dict.new }
-    ensures only { GivesOnly (IsTermIn (triples_of_numbers terms.now numbers.now)) dict.old.terms dict.new.terms }
-    ensures ok { IfOk result (λ keys. AreKeysOf dict.new.terms (triples_of_numbers terms.now numbers.now) keys.items) }
+    ensures only { GivesOnly (IsTermIn (triples_of_numbers terms.now numbers.now)) dict.old.terms
+        dict.new.terms }
+    ensures ok { IfOk result (λ keys. AreKeysOf dict.new.terms (triples_of_numbers terms.now numbers.now)
+        keys.items) }
     ensures refused { IfErr result (λ r. r ≡ NoMemory) }
 {
     if terms.len() <= FEW {

@@ -12,7 +12,8 @@ use gs_pool::Key;
 use gs_triple_lists::TripleList;
 use std::alloc::Global;
 
-/// The same of a list whose triples were not put in order.
+/// The keys of a list whose triples were not put in order, sorted by the texts of their terms, each
+/// once.
 fn sorted_run_of(alloc: Global, dict: &mut Dict, triples: &TripleList) -> Result<Vec<Key>, Refusal>
     ensures grows { Grows dict.old dict.new }
     ensures only { GivesOnly (IsTermIn triples.now.items) dict.old.terms dict.new.terms }
@@ -29,10 +30,10 @@ fn sorted_run_of(alloc: Global, dict: &mut Dict, triples: &TripleList) -> Result
 }
 
 /// The keys of some triples in the order of their texts, each once, as `gs_tree::union` takes them.
-/// Where the list's triples were put in order, their keys are, and none is compared. New terms are
-/// given numbers; those that were given some before a refusal keep them. Memory is wanted for a number
-/// for each term of the list, for a key for each triple and for the new terms; that no number is left
-/// counts as want of memory.
+/// Where the list's triples were put in order, their keys are too, and they are not compared with one
+/// another. New terms are given numbers; those that were given some before a refusal keep them. Memory
+/// is wanted for a number for each term of the list, for a key for each triple and for the new terms;
+/// that no number is left counts as want of memory.
 pub fn run_of(alloc: Global, dict: &mut Dict, triples: &TripleList) -> Result<Vec<Key>, Refusal>
     ensures grows { Grows dict.old dict.new }
     ensures only { GivesOnly (IsTermIn triples.now.items) dict.old.terms dict.new.terms }

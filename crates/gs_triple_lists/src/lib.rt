@@ -1,4 +1,4 @@
-//! Lists of triples: each term once, and three numbers a triple.
+//! Lists of triples: each term mostly once, and three numbers a triple.
 #![tactic(auto)]
 
 mod lists;

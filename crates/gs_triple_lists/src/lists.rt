@@ -142,7 +142,8 @@ impl TripleList {
         Ok(())
     }
 
-    /// Moves these triples to the end, in their order. Where memory is refused, none is added.
+    /// Moves these triples to the end, in their order. Where memory is refused, none is added, some of
+    /// the argument's are gone, and its others stand in reverse.
     pub fn append(&mut self, triples: &mut Vec<Triple>) -> Result<(), AllocError>
         ensures added { OnOk result (self.new ≡ listed (self.old.items ++ triples.old.items)) }
         ensures taken { OnOk result (triples.new.items ≡ []) }
@@ -189,7 +190,8 @@ impl TripleList {
     }
 
     /// Puts its triples in order, for `ordered_parts`, until the list is changed. The triples stay as they
-    /// came. Where memory is refused, they are in no order, and so are at most 4,096 that do not rise.
+    /// came. Where memory is refused, nothing changes. At most 4,096 that do not rise are left in no order,
+    /// and the store sorts them.
     pub fn put_in_order(&mut self) -> Result<(), AllocError>
         ensures { self.new ≡ self.old }
     {

@@ -1,5 +1,5 @@
-//! Triples in the order of their lines, each once. Texts of terms are compared once, for ranks; triples
-//! are sorted by these.
+//! Triples in the order of their lines, each once. To sort them, their terms are sorted by their texts,
+//! which are compared there alone, and then the triples by the ranks of their terms.
 ghost use Rattle.std.specs.Prelude.{◌≡◌, ◌-◌, ◌<◌, true, length, slice_index, IfOk};
 ghost use Rattle.std.specs.List.{range_with_len};
 ghost use Rattle.std.specs.List.Sorted.{IsPermutation, IsSorted, IsStrictlySortedBy};
@@ -110,8 +110,10 @@ fn rank_at(terms: &[TermText], by_text: &[u32], place: usize, before: u32) -> u3
     requires sorted { AreByText terms.now by_text.now }
     requires within { place < length by_text.now }
     requires before { 0 < place
-        → IsRankOf terms.now by_text.now (term_of_number terms.now (slice_index by_text.now (place - 1))) before }
-    ensures { IsRankOf terms.now by_text.now (term_of_number terms.now (slice_index by_text.now place)) result }
+        → IsRankOf terms.now by_text.now (term_of_number terms.now (slice_index by_text.now (place - 1)))
+        before }
+    ensures { IsRankOf terms.now by_text.now (term_of_number terms.now (slice_index by_text.now place))
+        result }
 {
     if place == 0 {
         return 0;

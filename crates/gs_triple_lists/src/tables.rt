@@ -9,15 +9,17 @@ use std::hash::{FoldHasher, Hasher};
 /// So many terms come first, and are in no chain: a short list is done before a chain would help.
 const FEW: usize = 16;
 
-/// The fewest buckets. There are four times as many as soon as there are as many terms in chains.
+/// How many buckets there are at first. Each begins a chain, of the terms whose hashes lead to it. When a
+/// term is added while as many are in chains as there are buckets, these become four times as many.
 const FIRST_BUCKETS: usize = 64;
 
 /// How many terms of a bucket are looked at, the newest first. So terms that are made to collide cost
-/// their memory again, and no time.
+/// their memory again, and at most 16 comparisons each.
 const LOOKS: usize = 16;
 
-/// The next link of a term's chain, and the hash of its text. A link counts the terms that are in chains,
-/// from 1 on, and is 0 at the end of a chain.
+/// What is kept of a term in a chain: the hash of its text, and where the link of the next term of the
+/// chain stands. All links stand in one list, by the numbers of their terms. `next` and the heads of the
+/// buckets are places in this list, plus 1; 0 stands for none.
 #[derive(Clone, Copy, Debug, Drop)]
 struct Link {
     next: u32,
@@ -45,25 +47,26 @@ fn bucket(hash: u32, buckets: usize) -> usize {
     hash as usize & buckets.saturating_sub(1)
 }
 
-/// Puts a term of this number and hash before its bucket's others, and gives the link to these.
-fn link_before(heads: &mut [u32], hash: u32, number: u32) -> u32 {
+/// Puts the link at this place, whose term has this hash, before the others of its bucket, and gives its
+/// `next`, which leads to these.
+fn link_before(heads: &mut [u32], hash: u32, place: u32) -> u32 {
     let bucket = bucket(hash, heads.len());
     match heads.get_mut(bucket) {
         None => 0,
         Some(head) => {
             let next = *head;
-            *head = number.wrapping_add(1);
+            *head = place.wrapping_add(1);
             next
         }
     }
 }
 
-/// Puts all terms into chains, in the order of their numbers.
+/// Puts all links into chains, in the order of their places.
 fn relink(links: &mut [Link], heads: &mut [u32]) {
-    let mut number = 0u32;
+    let mut place = 0u32;
     for link in links.iter_mut() {
-        link.next = link_before(heads, link.hash, number);
-        number = number.wrapping_add(1);
+        link.next = link_before(heads, link.hash, place);
+        place = place.wrapping_add(1);
     }
 }
 
