@@ -427,6 +427,12 @@ DEAR = [
      f"BASE <http://e/{LONG}>" + " BASE <>" * 12_500, 1.0, 503),
     ("an update of 415 kB, 50,000 of whose terms leave nearly all of its base out", "PATCH", "application/sparql-update",
      f"BASE <http://e/{LONG}/z> INSERT DATA {{ <a:a> <a:b> {','.join(['<../y>'] * 50_000)} }}", 1.0, 204),
+    ("an update of 990 kB, each word of its patterns a prefix of 65,000 bytes", "PATCH", "application/sparql-update",
+     f"PREFIX p: <http://e/{LONG}> " + ";".join([f"DELETE WHERE {{ {'p: p: p: . ' * 4}}}"] * 16_000), 1.0, 503),
+    ("a body of 1 MB, 200,000 objects by 200 prefixes of 5,000 bytes", "PUT", "text/turtle",
+     "".join(f"PREFIX p{k}: <http://e/{'a' * 5_000}{k}> " for k in range(200)) + f"<a:a> <a:b> {','.join(f'p{k % 200}:' for k in range(200_000))} .", 0.5, 503),
+    ("a body of 1 MB, whose every term is another one of 65,000 bytes by its prefix", "PUT", "text/turtle",
+     f"PREFIX p: <http://e/{LONG}> " + "".join(f"p:{3 * k} p:{3 * k + 1} p:{3 * k + 2} . " for k in range(35_000)), 1.0, 503),
 ]
 
 
@@ -509,9 +515,65 @@ def small_puts(program, rounds, warm=1_000, many=20_000, wanted=40_000_000):
     return holds
 
 
+def same_patches(program, rounds, many=7, wanted=100_000_000):
+    """How much memory the page of what was asked keeps of PATCHes of 1 MiB that say one triple again and again."""
+    text = f"INSERT DATA {{ <a:a> <a:b> {','.join(['1'] * 520_000)} }}"
+    grown = []
+    for _ in range(rounds):
+        with Server(program) as server:
+            client = Client(server)
+            client.status(put("/graphs/one", [line(P, Q, R)]))
+            before = server.resident_bytes()
+            if [client.status(request("PATCH", "/graphs/one", "application/sparql-update", text)) for _ in range(many)] != [204] * many:
+                raise SystemExit("a PATCH was not answered 204")
+            grown.append(server.resident_bytes() - before)
+    holds = min(grown) <= wanted
+    print(f"{many} PATCHes of 520,000 times one triple: {min(grown) / 1e6:.1f} MB more (at most {wanted / 1e6:g}){'' if holds else ': MISSED'}", flush=True)
+    return holds
+
+
+def replaced(program, rounds, wanted=150_000_000):
+    """How much memory a graph of 1,000 lines takes that is replaced again and again, over 40 connections one after another, by 32 workers;
+    and how much more after as many again."""
+    data = put("/graphs/many", [line(node("s", k // 5), P, f'"{k} of a thousand"') for k in range(1_000)])
+    grown, more = [], []
+    for _ in range(rounds):
+        with Server(program, "--workers", "32") as server:
+            clients = [Client(server) for _ in range(32)]
+            sizes = [server.resident_bytes()]
+            for times in (10_000, 10_000):
+                for _ in range(40):
+                    client = clients.pop(0)
+                    put_again(client, data, times // 40, 10)
+                    client.close()
+                    clients.append(Client(server))
+                sizes.append(server.resident_bytes())
+            grown.append(sizes[1] - sizes[0])
+            more.append(sizes[2] - sizes[1])
+    holds = min(grown) <= wanted and min(more) <= wanted / 10
+    print(f"a graph of 1,000 lines that is replaced 10,000 times: {min(grown) / 1e6:.1f} MB more (at most {wanted / 1e6:g}), "
+          f"and {min(more) / 1e6:.1f} MB after 20,000 (at most {wanted / 1e7:g}){'' if holds else ': MISSED'}", flush=True)
+    return holds
+
+
 def said(name, right):
     print(f"{name}: {'right' if right else 'WRONG'}", flush=True)
     return right
+
+
+def one_statement(program, rounds, many=4_000_000, wanted=640_000_000):
+    """The most memory that a statement of so many objects takes, which are one and the same."""
+    text = f"<a:a> <a:b> {'1,' * (many - 1)}1 ."
+    grown = []
+    for _ in range(rounds):
+        with Server(program) as server:
+            before = server.resident_bytes()
+            if Client(server).status(request("PUT", "/graphs/one", "text/turtle", text)) != 201:
+                raise SystemExit("a PUT was not answered 201")
+            grown.append(server.peak_bytes() - before)
+    holds = min(grown) <= wanted
+    print(f"a statement of {many} times one object: at most {min(grown) / 1e6:.1f} MB more (at most {wanted / 1e6:g}){'' if holds else ': MISSED'}", flush=True)
+    return holds
 
 
 def repeats(program, rounds, many=4_100_000, batch=1_000):
@@ -580,7 +642,8 @@ def pipelined(program, rounds, warm=70, many=400, wanted=4_000_000):
 
 def main():
     program, rounds = sys.argv[1], int(sys.argv[2]) if len(sys.argv) > 2 else 3
-    rows = (patterns, slow_reader, readers_end, ended_names, many_clients, dear_texts, empty_puts, small_puts, repeats, full_store, pipelined)
+    rows = (patterns, slow_reader, readers_end, ended_names, many_clients, dear_texts, empty_puts, small_puts, same_patches, replaced, one_statement, repeats, full_store,
+            pipelined)
     held = [row(program, rounds) for row in rows]
     sys.exit(0 if all(held) else 1)
 

@@ -36,3 +36,8 @@ class Server:
     def resident_bytes(self):
         with open(f"/proc/{self.process.pid}/status") as lines:
             return next(int(line.split()[1]) * 1024 for line in lines if line.startswith("VmRSS:"))
+
+    def peak_bytes(self):
+        """The most that it was resident so far."""
+        with open(f"/proc/{self.process.pid}/status") as lines:
+            return next(int(line.split()[1]) * 1024 for line in lines if line.startswith("VmHWM:"))

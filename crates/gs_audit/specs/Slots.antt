@@ -1,5 +1,6 @@
 -- What a seat has open, and how it follows the seat's phase.
-use Rattle.std.specs.Prelude.{◌≡◌, ℕ, ◌+◌, [], length, Option, Some, None}
+use Rattle.std.specs.Prelude.{◌≡◌, ℕ, ◌+◌, List, [], length, Option, Some, None}
+use Rattle.gs_model.specs.Triples.{RdfTriple}
 use Rattle.gs_event.specs.declared.events.Action.{Action}
 use Rattle.gs_event.specs.declared.events.Action.TheVariants.{Stage, Commit, Cancel}
 use Rattle.gs_event.specs.declared.events.Event.{Event}
@@ -9,7 +10,7 @@ use Rattle.gs_event.specs.declared.answers.Answer.TheVariants.{Staged, Status, C
 use Rattle.gs_event.specs.Phases.{Idle, Writing, Patching, Reading, phase_after}
 use Rattle.gs_event.specs.Views.{SeatView}
 use Rattle.gs_chronicle.specs.declared.requests.Request.{Request}
-use Rattle.gs_chronicle.specs.Uploads.{staged_triples, staged_graph, HasRoomToStage}
+use Rattle.gs_chronicle.specs.OpenUploads.{triples_so_far, graph_so_far, HasRoomToStage}
 use Rattle.gs_chronicle.specs.Requests.{call_of}
 use Rattle.gs_chronicle.specs.Pages.{Decided}
 use Rattle.gs_audit.specs.Decisions.{decided_at}
@@ -26,13 +27,13 @@ open_of (Reading left) = Idle
 -- the phase that a slot keeps
 abbrev pub slot_phase : Slot → SeatView
 slot_phase Empty = Idle
-slot_phase (Upload u) = Writing u.kind u.request (staged_graph u) u.since
+slot_phase (Upload u) = Writing u.kind u.request (graph_so_far u) u.since
 slot_phase (Patch t r since) = Patching t r since
 
 -- how many triples were staged, with repeats
 abbrev pub slot_count : Slot → ℕ
 slot_count Empty = 0
-slot_count (Upload u) = length (staged_triples u)
+slot_count (Upload u) = length (triples_so_far u)
 slot_count (Patch t r since) = 0
 
 -- a kept phase after an answer
@@ -45,6 +46,11 @@ count_after (Writing k r g since) n (Stage ts) Staged = n + length ts.items
 count_after (Writing k r g since) n Commit (Status s name number) = 0
 count_after (Writing k r g since) n Cancel Cancelled = 0
 count_after p n action a = n
+
+-- the triples of the list that an event stages, none for another event
+abbrev pub staged_by : Event → List RdfTriple
+staged_by (At s (Stage ts)) = ts.items
+staged_by e = []
 
 -- there is room for what the action stages
 abbrev pub CanStage : Slot → Action → Type 0

@@ -12,6 +12,7 @@ use gs_chronicle::Page;
 use gs_core::Store;
 use gs_event::{Answer, Event};
 use gs_model::Refusal;
+use gs_small_triples::SmallTriples;
 use std::alloc::{AllocError, Global};
 
 /// A store, what its seats have open, and a page of the calls that it decided.
@@ -26,7 +27,7 @@ pub struct Audited<const ENTRIES: usize, const TRIPLES: usize> {
 }
 
 impl<const ENTRIES: usize, const TRIPLES: usize> Audited<ENTRIES, TRIPLES> {
-    ghost use Rattle.std.specs.Prelude.{◌≡◌, ◌<◌, ◌≤◌, [], true, replicate, IfOk, IfErr};
+    ghost use Rattle.std.specs.Prelude.{◌≡◌, ◌<◌, ◌≤◌, [], true, replicate, IfOk, IfErr, IfSome};
     ghost use Rattle.gs_model.specs.Bases.{is_base};
     ghost use Rattle.gs_model.specs.Limits.{max_seats};
     ghost use Rattle.gs_event.specs.Births.{no_births};
@@ -35,7 +36,9 @@ impl<const ENTRIES: usize, const TRIPLES: usize> Audited<ENTRIES, TRIPLES> {
     ghost use Rattle.gs_core.specs.Settings.{start_at};
     ghost use Rattle.gs_chronicle.specs.Pages.{fresh_page};
     ghost use Rattle.gs_chronicle.specs.Views.{page_of};
+    ghost use Rattle.gs_small_triples.specs.Small.{small_triples};
     ghost use Rattle.gs_audit.specs.Staged.{staged_after};
+    ghost use Rattle.gs_audit.specs.Slots.{staged_by};
     ghost use Rattle.gs_audit.specs.Decisions.{page_by, ReplaysTo};
     ghost use Rattle.gs_audit.specs.Audits.{staged_of, decided_on};
 
@@ -99,11 +102,24 @@ impl<const ENTRIES: usize, const TRIPLES: usize> Audited<ENTRIES, TRIPLES> {
 
     /// Takes one event: one step of the store. What the event decided stands in the page then. It makes all
     /// its own room first, and where that is refused the answer is want of memory, and nothing changed.
-    pub fn event(&mut self, event: Event) -> Answer
+    pub fn event(&mut self, mut event: Event) -> Answer
         ensures steps { Steps self.old.store event result self.new.store }
         ensures page { page_of self.new.chronicle
             ≡ page_by ENTRIES TRIPLES (page_of self.old.chronicle) (decided_on self.old event result) }
         ensures staged { staged_of self.new ≡ staged_after (staged_of self.old) event result }
+    {
+        self.event_with(&mut event, None)
+    }
+
+    /// The same, with the small form of the list that the event stages, if that was made before. What the
+    /// page stores is taken out of the event; a list that was staged stays there, so that whoever has the
+    /// event lets it go.
+    pub fn event_with(&mut self, event: &mut Event, small: Option<SmallTriples>) -> Answer
+        requires { IfSome small (λ s. small_triples s ≡ staged_by event.old) }
+        ensures steps { Steps self.old.store event.old result self.new.store }
+        ensures page { page_of self.new.chronicle
+            ≡ page_by ENTRIES TRIPLES (page_of self.old.chronicle) (decided_on self.old event.old result) }
+        ensures staged { staged_of self.new ≡ staged_after (staged_of self.old) event.old result }
     {
         let Audited {
             alloc,
@@ -111,7 +127,7 @@ impl<const ENTRIES: usize, const TRIPLES: usize> Audited<ENTRIES, TRIPLES> {
             slots,
             chronicle,
         } = self;
-        take(*alloc, store, slots, chronicle, event)
+        take(*alloc, store, slots, chronicle, event, small)
     }
 
     /// The page. It replays to the dataset, the commit number and the last writes that the store shows.

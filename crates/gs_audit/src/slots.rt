@@ -1,9 +1,11 @@
 //! What each seat has open.
-ghost use Rattle.std.specs.Prelude.{◌≡◌, true, false};
-ghost use Rattle.gs_audit.specs.Slots.{slot_phase, slot_count, CanStage, CanTake, MayLack, NotesAction};
+ghost use Rattle.std.specs.Prelude.{◌≡◌, true, false, IfSome};
+ghost use Rattle.gs_small_triples.specs.Small.{small_triples};
+ghost use Rattle.gs_audit.specs.Slots.{staged_by, slot_phase, slot_count, CanStage, CanTake, MayLack, NotesAction};
 
-use gs_chronicle::{Request, Upload};
+use gs_chronicle::{OpenUpload, Request};
 use gs_event::{Action, Answer, Event};
+use gs_small_triples::SmallTriples;
 use gs_term::Target;
 use std::alloc::Global;
 use std::mem;
@@ -14,14 +16,16 @@ pub enum Slot {
     /// Nothing, or a read.
     Empty,
     /// An upload, with what was staged.
-    Upload(Upload),
+    Upload(OpenUpload),
     /// A patch of a graph, under this request number and on this condition.
     Patch(Target, u64, Option<u64>),
 }
 
 impl Slot {
-    /// Makes room for what the event will stage. False where that was refused.
-    pub fn make_room(&mut self, event: &Event) -> bool
+    /// Makes room for what the event will stage, with its small form where there is one. False where
+    /// that was refused.
+    pub fn make_room(&mut self, event: &Event, small: Option<SmallTriples>) -> bool
+        requires { IfSome small (λ s. small_triples s ≡ staged_by event.now) }
         ensures phase { slot_phase self.new ≡ slot_phase self.old }
         ensures count { slot_count self.new ≡ slot_count self.old }
         ensures room { result ≡ true → CanTake self.new event.now }
@@ -33,14 +37,19 @@ impl Slot {
         let Slot::Upload(upload) = self else {
             return true;
         };
-        upload.make_room(list)
+        upload.make_room(list, small)
     }
 
-    /// Takes note of an answer to an action. What the call decided, and its status, if it decided
-    /// anything.
-    pub fn note(&mut self, alloc: Global, action: Action, answer: &Answer) -> Option<(Request, u16)>
-        requires { CanStage self.old action }
-        ensures { NotesAction self.old action answer.now self.new result }
+    /// Takes note of an answer to an action, of which it takes what a page stores. What the call decided,
+    /// and its status, if it decided anything.
+    pub fn note(
+        &mut self,
+        alloc: Global,
+        action: &mut Action,
+        answer: &Answer,
+    ) -> Option<(Request, u16)>
+        requires { CanStage self.old action.old }
+        ensures { NotesAction self.old action.old answer.now self.new result }
     {
         let (next, call) = after(mem::replace(self, Slot::Empty), alloc, action, answer);
         *self = next;
@@ -48,20 +57,24 @@ impl Slot {
     }
 }
 
-/// What a slot is after an answer to an action, and what the call decided.
+/// What a slot is after an answer to an action, and what the call decided. A list that was staged stays
+/// with the action.
 fn after(
     slot: Slot,
     alloc: Global,
-    action: Action,
+    action: &mut Action,
     answer: &Answer,
 ) -> (Slot, Option<(Request, u16)>)
-    requires { CanStage slot action }
-    ensures { NotesAction slot action answer.now result.0 result.1 }
+    requires { CanStage slot action.old }
+    ensures { NotesAction slot action.old answer.now result.0 result.1 }
 {
     match slot {
-        Slot::Empty => after_empty(alloc, action, answer),
+        Slot::Empty => after_empty(alloc, mem::replace(action, Action::Cancel), answer),
         Slot::Upload(upload) => after_upload(upload, action, answer),
-        Slot::Patch(target, request, since) => after_patch(target, request, since, action, answer),
+        Slot::Patch(target, request, since) => {
+            let action = mem::replace(action, Action::Cancel);
+            after_patch(target, request, since, action, answer)
+        }
     }
 }
 
@@ -73,7 +86,7 @@ fn after_empty(alloc: Global, action: Action, answer: &Answer) -> (Slot, Option<
         Action::Open(kind, since) => match answer {
             Answer::Opened(request) => {
                 (
-                    Slot::Upload(Upload::new(alloc, kind, *request, since)),
+                    Slot::Upload(OpenUpload::new(alloc, kind, *request, since)),
                     None,
                 )
             }
@@ -107,25 +120,27 @@ fn after_empty(alloc: Global, action: Action, answer: &Answer) -> (Slot, Option<
 
 /// The same of one with an upload.
 fn after_upload(
-    mut upload: Upload,
-    action: Action,
+    mut upload: OpenUpload,
+    action: &Action,
     answer: &Answer,
 ) -> (Slot, Option<(Request, u16)>)
-    requires { CanStage (Slot.Upload upload) action }
-    ensures { NotesAction (Slot.Upload upload) action answer.now result.0 result.1 }
+    requires { CanStage (Slot.Upload upload) action.now }
+    ensures { NotesAction (Slot.Upload upload) action.now answer.now result.0 result.1 }
 {
     match action {
         Action::Stage(list) => match answer {
             Answer::Staged => {
-                upload.stage(&list);
+                upload.stage(list);
                 (Slot::Upload(upload), None)
             }
             _ => (Slot::Upload(upload), None),
         },
         Action::Commit => match answer {
             Answer::Status(status, _, _) => {
-                upload.close();
-                (Slot::Empty, Some((Request::Upload(upload), *status)))
+                (
+                    Slot::Empty,
+                    Some((Request::Upload(upload.closed()), *status)),
+                )
             }
             _ => (Slot::Upload(upload), None),
         },

@@ -1,8 +1,9 @@
 //! One event on a store, on what its seats have open, and on a page.
-ghost use Rattle.std.specs.Prelude.{◌≡◌};
+ghost use Rattle.std.specs.Prelude.{◌≡◌, IfSome};
+ghost use Rattle.gs_small_triples.specs.Small.{small_triples};
 ghost use Rattle.gs_chronicle.specs.Views.{page_of};
 ghost use Rattle.gs_audit.specs.Decisions.{page_by};
-ghost use Rattle.gs_audit.specs.Slots.{slot_phase, slot_count, CanTake};
+ghost use Rattle.gs_audit.specs.Slots.{staged_by, slot_phase, slot_count, CanTake};
 ghost use Rattle.gs_audit.specs.Takes.{StepsOrLacks, FollowSeats, TakesEvent, kept_phase, kept_count, kept_call};
 
 use crate::slots::Slot;
@@ -10,26 +11,29 @@ use gs_chronicle::Page;
 use gs_core::Store;
 use gs_event::{Answer, Event};
 use gs_model::Refusal;
+use gs_small_triples::SmallTriples;
 use std::alloc::Global;
 
-/// Takes an event.
+/// Takes an event, with the small form of a list that it stages, if there is one.
 pub fn take<const ENTRIES: usize, const TRIPLES: usize>(
     alloc: Global,
     store: &mut Store,
     slots: &mut Vec<Slot>,
     page: &mut Page<ENTRIES, TRIPLES>,
-    event: Event,
+    event: &mut Event,
+    small: Option<SmallTriples>,
 ) -> Answer
-    requires { FollowSeats store.old slots.old.items }
-    ensures { TakesEvent ENTRIES TRIPLES store.old slots.old.items (page_of page.old) event
+    requires seats { FollowSeats store.old slots.old.items }
+    requires small { IfSome small (λ s. small_triples s ≡ staged_by event.old) }
+    ensures { TakesEvent ENTRIES TRIPLES store.old slots.old.items (page_of page.old) event.old
         result store.new slots.new.items (page_of page.new) }
 {
-    let Event::Seat(seat, _) = &event else {
-        return store.step(&event);
+    let Event::Seat(seat, _) = &*event else {
+        return store.step(event);
     };
     match slots.get_mut(*seat as usize) {
-        Some(slot) => take_at(alloc, store, slot, page, event),
-        None => store.step(&event),
+        Some(slot) => take_at(alloc, store, slot, page, event, small),
+        None => store.step(event),
     }
 }
 
@@ -39,19 +43,21 @@ fn take_at<const ENTRIES: usize, const TRIPLES: usize>(
     store: &mut Store,
     slot: &mut Slot,
     page: &mut Page<ENTRIES, TRIPLES>,
-    event: Event,
+    event: &mut Event,
+    small: Option<SmallTriples>,
 ) -> Answer
-    ensures steps { StepsOrLacks store.old (slot_phase slot.old) event result store.new }
-    ensures phase { slot_phase slot.new ≡ kept_phase (slot_phase slot.old) event result }
+    requires { IfSome small (λ s. small_triples s ≡ staged_by event.old) }
+    ensures steps { StepsOrLacks store.old (slot_phase slot.old) event.old result store.new }
+    ensures phase { slot_phase slot.new ≡ kept_phase (slot_phase slot.old) event.old result }
     ensures count { slot_count slot.new
-        ≡ kept_count (slot_phase slot.old) (slot_count slot.old) event result }
+        ≡ kept_count (slot_phase slot.old) (slot_count slot.old) event.old result }
     ensures page { page_of page.new ≡ page_by ENTRIES TRIPLES (page_of page.old)
-        (kept_call (slot_phase slot.old) (slot_count slot.old) event result) }
+        (kept_call (slot_phase slot.old) (slot_count slot.old) event.old result) }
 {
-    if !slot.make_room(&event) {
+    if !slot.make_room(event, small) {
         return Answer::Refused(Refusal::NoMemory);
     }
-    let answer = store.step(&event);
+    let answer = store.step(event);
     note(alloc, slot, page, event, &answer);
     answer
 }
@@ -61,20 +67,20 @@ fn note<const ENTRIES: usize, const TRIPLES: usize>(
     alloc: Global,
     slot: &mut Slot,
     page: &mut Page<ENTRIES, TRIPLES>,
-    event: Event,
+    event: &mut Event,
     answer: &Answer,
 )
-    requires { CanTake slot.old event }
-    ensures phase { slot_phase slot.new ≡ kept_phase (slot_phase slot.old) event answer.now }
+    requires { CanTake slot.old event.old }
+    ensures phase { slot_phase slot.new ≡ kept_phase (slot_phase slot.old) event.old answer.now }
     ensures count { slot_count slot.new
-        ≡ kept_count (slot_phase slot.old) (slot_count slot.old) event answer.now }
+        ≡ kept_count (slot_phase slot.old) (slot_count slot.old) event.old answer.now }
     ensures page { page_of page.new ≡ page_by ENTRIES TRIPLES (page_of page.old)
-        (kept_call (slot_phase slot.old) (slot_count slot.old) event answer.now) }
+        (kept_call (slot_phase slot.old) (slot_count slot.old) event.old answer.now) }
 {
     let Event::Seat(seat, action) = event else {
         return;
     };
     if let Some((request, status)) = slot.note(alloc, action, answer) {
-        page.add(seat, request, status);
+        page.add(*seat, request, status);
     }
 }

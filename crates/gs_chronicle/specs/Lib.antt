@@ -1,7 +1,9 @@
--- Read in this order: how many triples operations have, and what an upload holds; the kinds of calls, what they asked and how
--- a page keeps them; what an entry and a page show; and how a page replays.
+-- Read in this order: how many triples operations have, which triples kept lists have, what an upload holds, and an open one;
+-- the kinds of calls, what they asked and how a page keeps them; what an entry and a page show; and how a page replays.
 pub mod Sizes
+pub mod KeptLists
 pub mod Uploads
+pub mod OpenUploads
 pub mod Kinds
 pub mod Requests
 pub mod Pages

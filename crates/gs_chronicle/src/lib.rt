@@ -2,8 +2,10 @@
 #![tactic(auto)]
 
 mod entries;
+mod kept_lists;
 mod kinds;
 mod laws;
+mod open_uploads;
 mod operations;
 mod pages;
 mod requests;
@@ -12,6 +14,7 @@ mod uploads;
 pub use entries::Entry;
 pub use kinds::ActionKind;
 pub use laws::page_replays_on;
+pub use open_uploads::OpenUpload;
 pub use operations::ops_size;
 pub use pages::Page;
 pub use requests::Request;

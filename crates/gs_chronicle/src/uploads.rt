@@ -1,43 +1,52 @@
-//! Open uploads.
-ghost use Rattle.std.specs.Prelude.{◌≡◌};
+//! Uploads, as a page stores them.
+ghost use Rattle.std.specs.Prelude.{◌≡◌, length};
+ghost use Rattle.gs_chronicle.specs.KeptLists.{all_triples};
 
+use crate::kept_lists::KeptList;
 use gs_event::UploadKind;
-use gs_packed_triples::{PackedTriples, UnpackedTriples};
-use gs_triple_lists::TripleList;
-use std::alloc::Global;
+use gs_term::Triple;
+use std::alloc::{AllocError, Global};
 
-/// What was staged since an upload was opened: the triples, packed, in the order in which they came.
+/// What was staged to an upload, in the order in which it came.
 #[derive(Debug, Drop)]
 pub struct Upload {
     kind: UploadKind,
     request: u64,
     since: Option<u64>,
-    packed: PackedTriples,
+    lists: Vec<KeptList>,
+    count: usize,
+    ghost counted: { count ≡ length (all_triples lists.items) },
 }
 
 impl Upload {
-    ghost use Rattle.std.specs.Prelude.{[], ◌++◌, true, length};
-    ghost use Rattle.gs_model.specs.Graphs.{empty_graph, with_triples};
-    ghost use Rattle.gs_packed_triples.specs.Triples.{triples_left};
-    ghost use Rattle.gs_chronicle.specs.Uploads.{staged_triples, staged_graph, staged_bytes, staged_room, HasRoomToStage};
+    ghost use Rattle.std.specs.Prelude.{◌≡◌, length, IfOk};
+    ghost use Rattle.gs_chronicle.specs.KeptLists.{all_triples};
+    ghost use Rattle.gs_chronicle.specs.Uploads.{staged_triples};
 
-    /// An upload of this kind, this request number and this condition, to which nothing was staged yet.
-    pub fn new(alloc: Global, kind: UploadKind, request: u64, since: Option<u64>) -> Upload
+    /// An upload of these lists, which have so many triples.
+    pub(crate) fn new(
+        kind: UploadKind,
+        request: u64,
+        since: Option<u64>,
+        lists: Vec<KeptList>,
+        count: usize,
+    ) -> Upload
+        requires { count ≡ length (all_triples lists.items) }
         ensures kind { result.kind ≡ kind }
         ensures request { result.request ≡ request }
         ensures since { result.since ≡ since }
-        ensures triples { staged_triples result ≡ [] }
-        ensures graph { staged_graph result ≡ empty_graph }
+        ensures triples { staged_triples result ≡ all_triples lists.items }
     {
         Upload {
             kind,
             request,
             since,
-            packed: PackedTriples::new(alloc),
+            lists,
+            count,
         }
     }
 
-    /// What it will do to its target.
+    /// What it did to its target.
     pub fn kind(&self) -> &UploadKind
         ensures { result.now ≡ self.now.kind }
     {
@@ -58,59 +67,21 @@ impl Upload {
         self.since
     }
 
-    /// A reader of the triples that were staged, the first one first. Takes no memory.
-    pub fn triples(&self) -> UnpackedTriples<'_>
-        ensures { triples_left result ≡ staged_triples self.now }
-    {
-        self.packed.triples()
-    }
-
     /// How many triples were staged, with repeats.
     pub fn count(&self) -> usize
         ensures { result ≡ length (staged_triples self.now) }
     {
-        self.packed.len()
+        self.count
     }
 
-    /// Makes room for a list. False where that was refused.
-    pub fn make_room(&mut self, list: &TripleList) -> bool
-        ensures kind { self.new.kind ≡ self.old.kind }
-        ensures request { self.new.request ≡ self.old.request }
-        ensures since { self.new.since ≡ self.old.since }
-        ensures triples { staged_triples self.new ≡ staged_triples self.old }
-        ensures room { result ≡ true → HasRoomToStage self.new list.now.items }
+    /// The triples that were staged, the first one first, each with terms of its own.
+    pub fn to_vec(&self, alloc: Global) -> Result<Vec<Triple>, AllocError>
+        ensures { IfOk result (λ v. v.items ≡ staged_triples self.now) }
     {
-        self.packed.make_room(list)
-    }
-
-    /// Packs a list, for which there is room. Takes no memory.
-    #[tactic(auto, using(crate::proofs::UploadLemmas::more_staged))]
-    pub fn stage(&mut self, list: &TripleList)
-        requires { HasRoomToStage self.old list.now.items }
-        ensures kind { self.new.kind ≡ self.old.kind }
-        ensures request { self.new.request ≡ self.old.request }
-        ensures since { self.new.since ≡ self.old.since }
-        ensures triples { staged_triples self.new ≡ staged_triples self.old ++ list.now.items }
-        ensures graph { staged_graph self.new ≡ with_triples (staged_graph self.old) list.now.items }
-    {
-        self.packed.add(list);
-    }
-
-    /// Gives back room that no triple fills. For an upload that is committed.
-    pub fn close(&mut self)
-        ensures kind { self.new.kind ≡ self.old.kind }
-        ensures request { self.new.request ≡ self.old.request }
-        ensures since { self.new.since ≡ self.old.since }
-        ensures triples { staged_triples self.new ≡ staged_triples self.old }
-        ensures frees { staged_bytes self.old ≡ 0 → staged_room self.new ≡ 0 }
-    {
-        self.packed.close();
-    }
-
-    /// For how many bytes of packed texts there is room, those that are there too.
-    pub fn capacity(&self) -> usize
-        ensures { result ≡ staged_room self.now }
-    {
-        self.packed.capacity()
+        let mut triples = Vec::with_capacity(alloc, self.count)?;
+        for list in &self.lists {
+            list.add_to(alloc, &mut triples)?;
+        }
+        Ok(triples)
     }
 }

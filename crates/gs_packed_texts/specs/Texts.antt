@@ -20,10 +20,6 @@ pub record HasRoom (p : PackedTexts) (n k : ℕ) : Type 0 where
 abbrev pub own_bytes : PackedTexts → ℕ
 own_bytes p = vec_len p.bytes
 
--- for how many such bytes there is room, those of the texts that are there too
-abbrev pub own_room : PackedTexts → ℕ
-own_room p = vec_capacity p.bytes
-
 -- the text of two parts
 abbrev pub split_bytes : SplitText → List ℕ
 split_bytes s = s.front.now ++ s.rest.now

@@ -16,7 +16,7 @@ pub struct ClosedTexts {
 }
 
 impl ClosedTexts {
-    ghost use Rattle.std.specs.Prelude.{◌≡◌, length};
+    ghost use Rattle.std.specs.Prelude.{◌≡◌, length, vec_capacity};
     ghost use Rattle.std.specs.List.{sum};
     ghost use Rattle.gs_packed_texts.specs.Kept.{own_in};
     ghost use Rattle.gs_packed_texts.specs.Packing.{source_of, unpacked};
@@ -27,7 +27,8 @@ impl ClosedTexts {
     pub(crate) fn new(marks: Vec<u8>, counts: Vec<u16>, bytes: Vec<u8>) -> ClosedTexts
         requires counted { sum counts.items ≡ length bytes.items }
         requires owned { own_in marks.items ≡ length counts.items }
-        ensures { closed_texts result ≡ unpacked marks.items (source_of counts.items bytes.items) }
+        ensures texts { closed_texts result ≡ unpacked marks.items (source_of counts.items bytes.items) }
+        ensures room { closed_room result ≡ vec_capacity bytes }
     {
         ClosedTexts {
             marks,
@@ -48,5 +49,15 @@ impl ClosedTexts {
         ensures { left_of result ≡ closed_texts self.now }
     {
         Texts::new(&self.marks, &self.counts, &self.bytes)
+    }
+
+    /// For how many marks, counts and bytes there is room.
+    #[cfg(test)]
+    pub fn rooms(&self) -> [usize; 3] {
+        [
+            self.marks.capacity(),
+            self.counts.capacity(),
+            self.bytes.capacity(),
+        ]
     }
 }

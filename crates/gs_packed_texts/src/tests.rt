@@ -12,7 +12,7 @@ const ROWS: [(&str, &[&str], usize); 12] = [
     (
         "triples of one subject",
         &["<e:a>", "<e:p>", "<e:b>", "<e:a>", "<e:p>", "<e:c>"],
-        17,
+        20,
     ),
     (
         "a text once more",
@@ -21,19 +21,19 @@ const ROWS: [(&str, &[&str], usize); 12] = [
     ),
     ("a literal once more", &["\"a\"", "", "", "\"a\""], 3),
     (
-        "half of an IRI from the anchor",
-        &["<e:abcd>", "", "", "<e:axyz>"],
-        12,
+        "three quarters of an IRI from the anchor",
+        &["<e:abcd>", "", "", "<e:abcx>"],
+        10,
     ),
     (
-        "less than half of an IRI from the anchor",
-        &["<e:abcd>", "", "", "<e:wxyz>", "", "", "<e:wxyv>"],
+        "less than three quarters of an IRI from the anchor",
+        &["<e:abcd>", "", "", "<e:abxy>", "", "", "<e:abxz>"],
         18,
     ),
     (
         "two texts in turn",
         &["<e:a>", "", "", "<e:b>", "", "", "<e:a>", "", "", "<e:b>"],
-        7,
+        10,
     ),
     (
         "IRIs that begin alike",
@@ -87,15 +87,15 @@ const ROOMS: [(&str, [usize; 2], &[&str], [usize; 3]); 4] = [
     ("no text", [12, 100], &[], [0, 0, 0]),
     (
         "half of each is filled",
-        [10, 38],
+        [10, 50],
         &["<e:a>", "<e:p>", "<e:b>", "<e:c>", "<e:q>"],
-        [5, 5, 19],
+        [5, 5, 25],
     ),
     (
-        "more than half of each is filled",
-        [9, 37],
+        "all but one of each is filled",
+        [6, 26],
         &["<e:a>", "<e:p>", "<e:b>", "<e:c>", "<e:q>"],
-        [9, 9, 37],
+        [5, 5, 25],
     ),
     (
         "a text once more has no count",
@@ -130,9 +130,8 @@ fn comes(left: &mut Texts<'_>, text: &[u8]) -> bool {
     }
 }
 
-/// Whether these texts come back, and no others.
-fn come_back(packed: &PackedTexts, texts: &[&str]) -> bool {
-    let mut left = packed.texts();
+/// Whether these texts come next, and no others.
+fn come_back(mut left: Texts<'_>, texts: &[&str]) -> bool {
     for text in texts {
         if !comes(&mut left, text.as_bytes()) {
             return false;
@@ -147,7 +146,7 @@ fn is_right(alloc: Global, texts: &[&str], own: usize) -> Result<bool, AllocErro
     for text in texts {
         add(&mut packed, text.as_bytes())?;
     }
-    Ok(come_back(&packed, texts) && packed.own_bytes() == own)
+    Ok(come_back(packed.texts(), texts) && packed.own_bytes() == own)
 }
 
 /// The name of the first row that is wrong.
@@ -173,8 +172,8 @@ fn is_room_right(
     for text in texts {
         add(&mut packed, text.as_bytes())?;
     }
-    packed.close();
-    Ok(come_back(&packed, texts) && packed.rooms() == left && packed.capacity() == left[2])
+    let closed = packed.closed();
+    Ok(come_back(closed.texts(), texts) && closed.rooms() == left && closed.capacity() == left[2])
 }
 
 /// The name of the first row of rooms that is wrong.

@@ -34,21 +34,10 @@ fn append(own: &[u8], bytes: &mut Vec<u8>)
     let _ = bytes.extend_from_slice(own);
 }
 
-/// Gives back the room that is not filled, where it is half of all or more. Where memory for a smaller
-/// block is refused, the room stays.
-fn fit<T>(list: &mut Vec<T>)
-    ensures items { list.new.items ≡ list.old.items }
-    ensures frees { vec_len list.old ≡ 0 → vec_capacity list.new ≡ 0 }
-{
-    if list.len() <= list.capacity() / 2 {
-        list.shrink_to_fit();
-    }
-}
-
 impl PackedTexts {
     ghost use Rattle.std.specs.Prelude.{◌≡◌, ◌+◌, ◌≤◌, ℕ, [], ◌∷◌, ◌++◌, length, OnOk};
-    ghost use Rattle.gs_packed_texts.specs.Texts.{texts_of, left_of, own_bytes, own_room, HasRoom};
-    ghost use Rattle.gs_packed_texts.specs.Closed.{closed_texts};
+    ghost use Rattle.gs_packed_texts.specs.Texts.{texts_of, left_of, own_bytes, HasRoom};
+    ghost use Rattle.gs_packed_texts.specs.Closed.{closed_texts, closed_room};
 
     /// No texts. Takes no memory.
     pub fn new(alloc: Global) -> PackedTexts
@@ -96,37 +85,22 @@ impl PackedTexts {
         self.third = window;
     }
 
-    /// Gives back room that is not filled: what is kept is less than twice what the texts take, unless
-    /// memory is refused. For texts after which no more will come.
-    pub fn close(&mut self)
-        ensures texts { texts_of self.new ≡ texts_of self.old }
-        ensures frees { own_bytes self.old ≡ 0 → own_room self.new ≡ 0 }
+    /// The same texts, after which no more will come. All room that is not filled is given back; where
+    /// memory for a smaller block is refused, the room stays.
+    pub fn closed(self) -> ClosedTexts
+        ensures texts { closed_texts result ≡ texts_of self }
+        ensures frees { own_bytes self ≡ 0 → closed_room result ≡ 0 }
     {
-        fit(&mut self.marks);
-        fit(&mut self.counts);
-        fit(&mut self.bytes);
-    }
-
-    /// The same texts, in as little room as `close` leaves, with nothing of what comes next. For texts
-    /// after which no more will come.
-    pub fn closed(mut self) -> ClosedTexts
-        ensures { closed_texts result ≡ texts_of self }
-    {
-        self.close();
         let PackedTexts {
-            marks,
-            counts,
-            bytes,
+            mut marks,
+            mut counts,
+            mut bytes,
             ..
         } = self;
+        marks.shrink_to_fit();
+        counts.shrink_to_fit();
+        bytes.shrink_to_fit();
         ClosedTexts::new(marks, counts, bytes)
-    }
-
-    /// For how many bytes of their own there is room, those of the texts that are there too.
-    pub fn capacity(&self) -> usize
-        ensures { result ≡ own_room self.now }
-    {
-        self.bytes.capacity()
     }
 
     /// The texts, the first one first.
@@ -140,15 +114,5 @@ impl PackedTexts {
     #[cfg(test)]
     pub fn own_bytes(&self) -> usize {
         self.bytes.len()
-    }
-
-    /// For how many marks, counts and bytes there is room.
-    #[cfg(test)]
-    pub fn rooms(&self) -> [usize; 3] {
-        [
-            self.marks.capacity(),
-            self.counts.capacity(),
-            self.bytes.capacity(),
-        ]
     }
 }

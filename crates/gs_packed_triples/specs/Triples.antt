@@ -1,7 +1,7 @@
 -- What packed triples are, and what a reader of them has before it.
 use Rattle.std.specs.Prelude.{◌≡◌, ℕ, ◌+◌, ◌*◌, ◌<◌, ◌^◌, List, [], ◌∷◌, length, Option, Some, None}
 use Rattle.gs_model.specs.Triples.{RdfTriple}
-use Rattle.gs_packed_texts.specs.Texts.{texts_of, left_of, split_bytes, own_bytes, own_room, HasRoom}
+use Rattle.gs_packed_texts.specs.Texts.{texts_of, left_of, split_bytes, own_bytes, HasRoom}
 use Rattle.gs_packed_triples.specs.Formed.{triple_of_texts, triples_unpacked}
 use Rattle.gs_packed_triples.specs.Room.{triples_bytes}
 use Rattle.gs_packed_triples.specs.declared.triples.PackedTriples.{PackedTriples}
@@ -15,10 +15,6 @@ packed_triples p = triples_unpacked (texts_of p.texts)
 -- how many bytes of their own the texts of the triples have
 abbrev pub packed_bytes : PackedTriples → ℕ
 packed_bytes p = own_bytes p.texts
-
--- for how many such bytes there is room, those of the triples that are there too
-abbrev pub packed_room : PackedTriples → ℕ
-packed_room p = own_room p.texts
 
 -- there is room for these triples, and for counting them
 pub record HasRoomFor (p : PackedTriples) (ts : List RdfTriple) : Type 0 where

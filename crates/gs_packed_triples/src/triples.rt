@@ -8,6 +8,7 @@ ghost use Rattle.gs_packed_triples.specs.Formed.{triples_unpacked, AreFormed};
 ghost use Rattle.gs_packed_triples.specs.Room.{triple_bytes, triples_bytes, LeavesRoom};
 ghost use Rattle.gs_packed_triples.specs.Props.{IsText-prop};
 
+use crate::closed::ClosedTriples;
 use crate::readers::UnpackedTriples;
 use gs_packed_texts::PackedTexts;
 use gs_term::TermText;
@@ -58,7 +59,8 @@ fn push_term(texts: &mut PackedTexts, term: &TermText)
 
 impl PackedTriples {
     ghost use Rattle.std.specs.Prelude.{◌≡◌, [], ◌∷◌, ◌++◌, length, true};
-    ghost use Rattle.gs_packed_triples.specs.Triples.{packed_triples, packed_bytes, packed_room, triples_left, HasRoomFor, LeavesRoomFor};
+    ghost use Rattle.gs_packed_triples.specs.Triples.{packed_triples, packed_bytes, triples_left, HasRoomFor, LeavesRoomFor};
+    ghost use Rattle.gs_packed_triples.specs.Closed.{closed_triples, closed_triples_room};
 
     /// No triples. Takes no memory.
     pub fn new(alloc: Global) -> PackedTriples
@@ -120,20 +122,14 @@ impl PackedTriples {
         }
     }
 
-    /// Gives back room that is not filled (`PackedTexts::close`). For triples after which no more will
-    /// come.
-    pub fn close(&mut self)
-        ensures triples { packed_triples self.new ≡ packed_triples self.old }
-        ensures frees { packed_bytes self.old ≡ 0 → packed_room self.new ≡ 0 }
+    /// The same triples, after which no more will come. Room that is not filled is given back
+    /// (`PackedTexts::closed`).
+    pub fn closed(self) -> ClosedTriples
+        ensures triples { closed_triples result ≡ packed_triples self }
+        ensures frees { packed_bytes self ≡ 0 → closed_triples_room result ≡ 0 }
     {
-        self.texts.close();
-    }
-
-    /// For how many bytes of texts there is room, those that are there too.
-    pub fn capacity(&self) -> usize
-        ensures { result ≡ packed_room self.now }
-    {
-        self.texts.capacity()
+        let PackedTriples { texts, count } = self;
+        ClosedTriples::new(texts.closed(), count)
     }
 
     /// A reader of the triples, the first one first.

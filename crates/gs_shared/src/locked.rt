@@ -1,8 +1,10 @@
 //! What lies under the lock.
-ghost use Rattle.std.specs.Prelude.{◌≡◌, ◌≢◌, ◌<◌, ◌-◌, length, sum, false};
+ghost use Rattle.std.specs.Prelude.{◌≡◌, ◌≢◌, ◌<◌, ◌-◌, length, sum, false, IfSome};
 ghost use Rattle.crossbeam_utils.specs.Seq.{cell_view};
+ghost use Rattle.gs_small_triples.specs.Small.{small_triples};
 ghost use Rattle.gs_chronicle.specs.Views.{page_of};
 ghost use Rattle.gs_audit.specs.Audits.{staged_of};
+ghost use Rattle.gs_audit.specs.Slots.{staged_by};
 ghost use Rattle.gs_door.specs.Kinds.{IsOfKind};
 ghost use Rattle.gs_pass.specs.Tallies.{tally_of};
 ghost use Rattle.gs_shared.specs.Asked.{ask_of_event, IsSmallEvent};
@@ -17,6 +19,7 @@ use gs_audit::Audited;
 use gs_event::{Answer, Event};
 use gs_model::Refusal;
 use gs_pass::{Pass, Receipt, ReceiptRoom, Register, Room, StampCell};
+use gs_small_triples::SmallTriples;
 use std::sync::Wait;
 use std::sync::ledger::{Ledger, Share};
 
@@ -52,25 +55,28 @@ impl<C: Ledger, T: Ledger, B: Room> Locked<C, T, B> {
     }
 
     /// Takes an event that is no action of another seat than the pass's, and tells the pass. The caller
-    /// read off the event what it asks, so that this is not done under the lock.
+    /// read off the event what it asks, and made the small form of a list that it stages, so that this is
+    /// not done under the lock. A list that was staged stays with the event.
     pub(crate) fn event<R: Wait>(
         &mut self,
         rt: &R,
         cell: &StampCell,
         pass: &mut Pass<C, T, B>,
-        event: Event,
+        event: &mut Event,
         asked: EventAsk,
+        small: Option<SmallTriples>,
     ) -> Answer
-        requires own { is_of_another pass.old.record.seat event ≡ false }
+        requires own { is_of_another pass.old.record.seat event.old ≡ false }
         requires cell { cell.now.table.shared.table_id ≡ B.table }
-        requires asked { asked ≡ ask_of_event event }
-        requires small { IsSmallEvent event }
-        ensures told { ToldBy event result (tally_of pass.old.record) (tally_of pass.new.record) }
-        ensures kind { IsOfKind event result }
+        requires asked { asked ≡ ask_of_event event.old }
+        requires few { IsSmallEvent event.old }
+        requires small { IfSome small (λ s. small_triples s ≡ staged_by event.old) }
+        ensures told { ToldBy event.old result (tally_of pass.old.record) (tally_of pass.new.record) }
+        ensures kind { IsOfKind event.old result }
         ensures there { result ≢ Answer.Refused Refusal.BadSeat }
         ensures seat { pass.new.record.seat ≡ pass.old.record.seat }
     {
-        let answer = self.audited.event(event);
+        let answer = self.audited.event_with(event, small);
         self.register.count(pass, asked.brought(&answer));
         match asked.decided(&answer) {
             None => answer,

@@ -95,6 +95,7 @@ impl<C: CountedLedger, T: CountedLedger, B: Room> Shared<C, T, B> {
         let store = SharedStore {
             cell,
             lock: Mutex::new(locked),
+            alloc,
         };
         Ok(Shared {
             store,
@@ -215,7 +216,11 @@ impl<C: CountedLedger, T: CountedLedger, B: Room> Shared<C, T, B> {
             alloc: _,
             mut records,
         } = self;
-        let SharedStore { cell, lock } = store;
+        let SharedStore {
+            cell,
+            lock,
+            alloc: _,
+        } = store;
         let Locked {
             audited,
             mut register,

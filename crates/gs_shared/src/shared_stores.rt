@@ -1,13 +1,17 @@
 //! The lock, which threads share.
-ghost use Rattle.std.specs.Prelude.{◌≡◌};
+ghost use Rattle.std.specs.Prelude.{◌≡◌, IfSome};
+ghost use Rattle.gs_small_triples.specs.Small.{small_triples};
+ghost use Rattle.gs_audit.specs.Slots.{staged_by};
 ghost use Rattle.gs_door.specs.Kinds.{IsOfKind};
 ghost use Rattle.gs_shared.specs.Tells.{is_of_another as is_of_another_seat, Tells};
 
 use crate::asked::EventAsk;
 use crate::locked::Locked;
-use gs_event::{Answer, Event};
+use gs_event::{Action, Answer, Event};
 use gs_model::Refusal;
 use gs_pass::{Pass, Room, StampCell};
+use gs_small_triples::SmallTriples;
+use std::alloc::Global;
 use std::sync::ledger::Ledger;
 use std::sync::{Mutex, Wait};
 
@@ -17,13 +21,14 @@ use std::sync::{Mutex, Wait};
 pub struct SharedStore<C: Ledger, T: Ledger, B: Room> {
     pub(crate) cell: StampCell,
     pub(crate) lock: Mutex<Locked<C, T, B>>,
+    pub(crate) alloc: Global,
     ghost table: { cell.table.shared.table_id ≡ B.table },
 }
 
 impl<C: Ledger, T: Ledger, B: Room> SharedStore<C, T, B> {
     /// Takes one event, in one hold of the Mutex, and tells the pass. An action of another seat than
     /// the pass's is refused with `BadSeat`, and nothing else is.
-    pub fn event<R: Wait>(&self, rt: &R, pass: &mut Pass<C, T, B>, event: Event) -> Answer
+    pub fn event<R: Wait>(&self, rt: &R, pass: &mut Pass<C, T, B>, mut event: Event) -> Answer
         ensures told { Tells event result pass.old.record pass.new.record }
         ensures kind { IsOfKind event result }
     {
@@ -31,7 +36,25 @@ impl<C: Ledger, T: Ledger, B: Room> SharedStore<C, T, B> {
             return Answer::Refused(Refusal::BadSeat);
         }
         let asked = EventAsk::by(&event);
-        self.lock.lock(rt).event(rt, &self.cell, pass, event, asked)
+        let small = small_form(self.alloc, &event);
+        let answer = self
+            .lock
+            .lock(rt)
+            .event(rt, &self.cell, pass, &mut event, asked, small);
+        // Its list goes outside of the lock.
+        drop(event);
+        answer
+    }
+}
+
+/// The small form of the list that an event stages. `None` for another event, and where memory is
+/// refused: then the list is packed under the lock.
+fn small_form(alloc: Global, event: &Event) -> Option<SmallTriples>
+    ensures { IfSome result (λ s. small_triples s ≡ staged_by event.now) }
+{
+    match event {
+        Event::Seat(_, Action::Stage(list)) => SmallTriples::of(alloc, list).ok(),
+        _ => None,
     }
 }
 

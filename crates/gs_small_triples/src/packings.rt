@@ -1,5 +1,5 @@
 //! Terms of a list packed, and where each is.
-ghost use Rattle.std.specs.Prelude.{◌≡◌, ◌≤◌, ◌^◌, length};
+ghost use Rattle.std.specs.Prelude.{◌≡◌, ◌≤◌, ◌^◌, length, IfOk};
 ghost use Rattle.std.specs.List.{All};
 ghost use Rattle.std.proofs.Props.{props};
 ghost use Rattle.gs_model.specs.Texts.{IsCanonical};
@@ -36,11 +36,26 @@ fn moved_numbers(places: &[u32], numbers: TripleNumbers) -> TripleNumbers
     }
 }
 
+/// For each of so many terms, whether it is the predicate of a triple of these numbers.
+fn predicates_of(
+    alloc: Global,
+    terms: usize,
+    numbers: &[TripleNumbers],
+) -> Result<Vec<bool>, AllocError>
+    ensures { IfOk result (λ v. length v.items ≡ terms) }
+{
+    let mut is_predicate = vec![in alloc; false; terms]?;
+    for three in numbers {
+        if let Some(flag) = is_predicate.get_mut(three.predicate as usize) {
+            *flag = true;
+        }
+    }
+    Ok(is_predicate)
+}
+
 impl Packing {
-    ghost use Rattle.std.specs.Prelude.{◌≡◌, ◌<◌, ℕ, length, map, IfOk, OnOk};
+    ghost use Rattle.std.specs.Prelude.{◌≡◌, ◌<◌, ℕ, false, length, map, slice_index_or, IfOk, OnOk};
     ghost use Rattle.std.specs.List.{All};
-    ghost use Rattle.gs_model.specs.Triples.{is_iri};
-    ghost use Rattle.gs_triple_lists.specs.Kept.{term_of_number};
     ghost use Rattle.gs_small_triples.specs.Packed.{IsPlaced, StayPlaced, ArePlaced, HavePlaces};
 
     /// No texts, and a place yet to be noted for each of so many terms.
@@ -76,42 +91,61 @@ impl Packing {
         Ok(())
     }
 
-    /// Packs the term of a number if it is an IRI, or if it is not, as is asked.
-    fn pack_if(&mut self, terms: &[TermText], number: usize, iris: bool) -> Result<(), AllocError>
+    /// Packs the term of a number if it is flagged, or if it is not, as is asked.
+    fn pack_if(
+        &mut self,
+        terms: &[TermText],
+        flags: &[bool],
+        number: usize,
+        flag: bool,
+    ) -> Result<(), AllocError>
         requires inside { number < length terms.now }
+        requires flagged { length flags.now ≡ length terms.now }
         requires noted { length self.old.places.items ≡ length terms.now }
         ensures noted { length self.new.places.items ≡ length terms.now }
-        ensures placed { OnOk result (is_iri (term_of_number terms.now number) ≡ iris
+        ensures placed { OnOk result (slice_index_or flags.now number false ≡ flag
             → IsPlaced terms.now self.new number) }
         ensures stay { StayPlaced terms.now self.old self.new }
     {
-        if terms[number].is_iri() != iris {
+        if flags[number] != flag {
             return Ok(());
         }
         self.pack(terms, number)
     }
 
-    /// Packs the terms that are IRIs, or those that are not.
-    fn pack_kind(&mut self, terms: &[TermText], iris: bool) -> Result<(), AllocError>
+    /// Packs the terms that are flagged, or those that are not.
+    fn pack_kind(
+        &mut self,
+        terms: &[TermText],
+        flags: &[bool],
+        flag: bool,
+    ) -> Result<(), AllocError>
+        requires flagged { length flags.now ≡ length terms.now }
         requires noted { length self.old.places.items ≡ length terms.now }
         ensures noted { length self.new.places.items ≡ length terms.now }
         ensures placed { OnOk result ((k : ℕ) → k < length terms.now
-            → is_iri (term_of_number terms.now k) ≡ iris → IsPlaced terms.now self.new k) }
+            → slice_index_or flags.now k false ≡ flag → IsPlaced terms.now self.new k) }
         ensures stay { StayPlaced terms.now self.old self.new }
     {
         for number in 0..terms.len() {
-            self.pack_if(terms, number, iris)?;
+            self.pack_if(terms, flags, number, flag)?;
         }
         Ok(())
     }
 
-    /// Terms packed, the IRIs first, as these mostly begin alike.
-    pub fn of(alloc: Global, terms: &[TermText]) -> Result<Packing, AllocError>
+    /// Terms packed, the predicates of these triples first: among the others they would part IRIs that
+    /// begin alike.
+    pub fn of(
+        alloc: Global,
+        terms: &[TermText],
+        numbers: &[TripleNumbers],
+    ) -> Result<Packing, AllocError>
         ensures placed { IfOk result (ArePlaced terms.now) }
     {
+        let is_predicate = predicates_of(alloc, terms.len(), numbers)?;
         let mut packing = Packing::new(alloc, terms.len())?;
-        packing.pack_kind(terms, true)?;
-        packing.pack_kind(terms, false)?;
+        packing.pack_kind(terms, &is_predicate, true)?;
+        packing.pack_kind(terms, &is_predicate, false)?;
         Ok(packing)
     }
 

@@ -1,7 +1,10 @@
-//! Lists of few and of more terms, read back from their small form, and the bytes that numbers take.
+//! Lists of few and of more terms, read back from their small form, the order in which terms are packed, and
+//! the bytes that numbers take.
 use crate::numbers::Numbers;
+use crate::packings::Packing;
 use crate::triples::SmallTriples;
 use gs_model::Refusal;
+use gs_packed_texts::Texts;
 use gs_term::{TermText, Triple};
 use gs_triple_lists::TripleList;
 use std::alloc::{AllocError, Global};
@@ -9,6 +12,17 @@ use std::test::Fail;
 
 /// How many triples a list has, each of a subject of its own.
 const LISTS: [usize; 4] = [0, 1, 2, 300];
+
+/// The terms of a list of two triples, as they are packed: the predicates, and then the others in the order
+/// in which they came. In so short a list a term is not looked for, so the object is there twice.
+const PACKED: [&str; 6] = [
+    "<http://example.org/terms#name>",
+    "<e:p>",
+    "<http://example.org/things/0>",
+    "\"a\"",
+    "<http://example.org/things/1>",
+    "\"a\"",
+];
 
 /// How many terms there are, and how many bytes a number of theirs takes.
 const WIDTHS: [(usize, usize); 6] = [(0, 1), (1, 1), (256, 1), (257, 2), (65_536, 2), (65_537, 4)];
@@ -56,6 +70,28 @@ fn wrong_list(alloc: Global) -> Result<Option<usize>, Refusal> {
     Ok(None)
 }
 
+/// Whether this text comes next.
+fn comes(left: &mut Texts<'_>, text: &[u8]) -> bool {
+    match left.next() {
+        Some(read) => text.strip_prefix(read.front()) == Some(read.rest()),
+        None => false,
+    }
+}
+
+/// The first term that is not packed at its place.
+fn wrong_place(alloc: Global) -> Result<Option<&'static str>, Refusal> {
+    let list = list_of(alloc, 2)?;
+    let (terms, numbers) = list.parts();
+    let packing = Packing::of(alloc, terms, numbers)?;
+    let mut left = packing.texts.texts();
+    for text in &PACKED {
+        if !comes(&mut left, text.as_bytes()) {
+            return Ok(Some(*text));
+        }
+    }
+    Ok(None)
+}
+
 /// The first count of terms whose numbers take another number of bytes.
 fn wrong_width(alloc: Global) -> Result<Option<usize>, AllocError> {
     for row in &WIDTHS {
@@ -70,6 +106,12 @@ fn wrong_width(alloc: Global) -> Result<Option<usize>, AllocError> {
 #[test]
 fn lists_come_back_from_their_small_form(rt: HostRuntime) -> Result<(), Fail> {
     assert_eq!(rt; wrong_list(rt.alloc())?, None);
+    Ok(())
+}
+
+#[test]
+fn predicates_are_packed_first(rt: HostRuntime) -> Result<(), Fail> {
+    assert_eq!(rt; wrong_place(rt.alloc())?, None);
     Ok(())
 }
 

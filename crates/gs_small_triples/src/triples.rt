@@ -62,7 +62,7 @@ impl SmallTriples {
         ensures { IfOk result (λ s. small_triples s ≡ list.now.items) }
     {
         let (terms, numbers) = list.parts();
-        let packing = Packing::of(alloc, terms)?;
+        let packing = Packing::of(alloc, terms, numbers)?;
         let numbers = packing.numbers(alloc, numbers)?;
         Ok(SmallTriples {
             texts: packing.texts.closed(),

@@ -7,4 +7,4 @@ use Rattle.gs_audit.proofs.takes.take_at.Goals as goal
 pub returns-then-not-make_room-clause-count : goal.returns-then-not-make_room-clause-count
 returns-then-not-make_room-clause-count g c =
     let slot = c.args.slot.now in
-    c.make_room.ensures.count ∙ sym (refused_count (slot_phase slot) (slot_count slot) c.args.event NoMemory)
+    c.make_room.ensures.count ∙ sym (refused_count (slot_phase slot) (slot_count slot) c.args.event.now NoMemory)

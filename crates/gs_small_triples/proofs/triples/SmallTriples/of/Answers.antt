@@ -16,14 +16,14 @@ invariant_of-result c =
     let known = subst (AreTriplesIn (terms_of (texts_of packing.texts))) (sym c.in_ok-numbers.ensures)
     (all_known_moved c.parts.result.0.now packing c.in_ok-packing.ensures.placed c.parts.result.1.now c.parts.ensures.known) in
     record {
-      canonical = subst (All IsCanonical) (sym c.closed.ensures) packing.canonical;
-      known = subst (λ xs. AreTriplesIn (terms_of xs) (numbers_in c.in_ok-numbers.numbers)) (sym c.closed.ensures) known;
+      canonical = subst (All IsCanonical) (sym c.closed.ensures.texts) packing.canonical;
+      known = subst (λ xs. AreTriplesIn (terms_of xs) (numbers_in c.in_ok-numbers.numbers)) (sym c.closed.ensures.texts) known;
     }
 
 pub returns : goal.returns
 returns c =
     let packing = c.in_ok-packing.packing in
-    ap (λ xs. triples_of_numbers (terms_of xs) (numbers_in c.in_ok-numbers.numbers)) c.closed.ensures
+    ap (λ xs. triples_of_numbers (terms_of xs) (numbers_in c.in_ok-numbers.numbers)) c.closed.ensures.texts
     ∙ (ap (triples_of_numbers (terms_of (texts_of packing.texts))) c.in_ok-numbers.ensures
     ∙ (triples_moved c.parts.result.0.now packing c.in_ok-packing.ensures.placed c.parts.result.1.now c.parts.ensures.known
     ∙ c.parts.ensures.triples))

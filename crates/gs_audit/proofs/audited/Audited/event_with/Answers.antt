@@ -1,6 +1,6 @@
 use Rattle.gs_chronicle.specs.Views.{page_of}
 use Rattle.gs_audit.proofs.TakeLemmas.{replays_then}
-use Rattle.gs_audit.proofs.audited.Audited.event.Goals as goal
+use Rattle.gs_audit.proofs.audited.Audited.event_with.Goals as goal
 
 pub invariant_of-self : goal.invariant_of-self
 invariant_of-self g c =
@@ -8,5 +8,5 @@ invariant_of-self g c =
       agrees = c.take.ensures.agree;
       replays =
           replays_then g.row.ENTRIES g.row.TRIPLES self.store c.take.new.store self.slots.items c.take.new.slots.items (page_of self.chronicle) (page_of c.take.new.page)
-          c.args.event c.take.result c.take.ensures self.replays;
+          c.args.event.now c.take.result c.take.ensures self.replays;
     }

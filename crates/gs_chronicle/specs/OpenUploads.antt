@@ -1,0 +1,27 @@
+-- What was staged so far to an open upload.
+use Rattle.std.specs.Prelude.{◌≡◌, ◌+◌, ◌^◌, ◌<◌, ◌≤◌, List, ◌++◌, length, min, vec_len, vec_capacity, MatchOption}
+use Rattle.gs_model.specs.Triples.{RdfTriple}
+use Rattle.gs_model.specs.Graphs.{Graph, graph_of}
+use Rattle.gs_packed_triples.specs.Triples.{packed_triples, HasRoomFor}
+use Rattle.gs_small_triples.specs.Small.{small_triples}
+use Rattle.gs_chronicle.specs.KeptLists.{all_triples}
+use Rattle.gs_chronicle.specs.declared.open_uploads.OpenUpload.{OpenUpload}
+
+-- the triples that were staged so far, in the order in which they came, with repeats
+abbrev pub triples_so_far : OpenUpload → List RdfTriple
+triples_so_far u = all_triples u.lists.items ++ packed_triples u.gathered
+
+-- the graph of all that was staged so far
+abbrev pub graph_so_far : OpenUpload → Graph
+graph_so_far u = graph_of (triples_so_far u)
+
+-- there are places for what is gathered and for one list more
+abbrev pub HasPlace : OpenUpload → Type 0
+HasPlace u = vec_len u.lists + min (length (packed_triples u.gathered)) 1 + 1 ≤ vec_capacity u.lists
+
+-- There is room for a list: a number for all triples, a place for the list after what is gathered, and either its small form
+-- or room where it is gathered.
+pub record HasRoomToStage (u : OpenUpload) (ts : List RdfTriple) : Type 0 where
+  pub count : u.count + length ts < 2 ^ 64
+  pub place : HasPlace u
+  pub list : MatchOption u.next (HasRoomFor u.gathered ts) (λ s. small_triples s ≡ ts)

@@ -1,0 +1,181 @@
+//! Open uploads.
+ghost use Rattle.std.specs.Prelude.{◌≡◌, ◌+◌, ◌≤◌, ◌++◌, length, min, vec_len, vec_capacity, IfSome};
+ghost use Rattle.gs_small_triples.specs.Small.{small_triples};
+ghost use Rattle.gs_packed_triples.specs.Triples.{packed_triples};
+ghost use Rattle.gs_chronicle.specs.KeptLists.{all_triples};
+
+use crate::kept_lists::{KeptList, keep_gathered};
+use crate::uploads::Upload;
+use gs_event::UploadKind;
+use gs_packed_triples::PackedTriples;
+use gs_small_triples::SmallTriples;
+use gs_triple_lists::TripleList;
+use std::alloc::Global;
+use std::mem;
+
+/// Lists of fewer triples are gathered, but the first that has any: a small form takes some 230
+/// bytes beside its triples.
+const FEW: usize = 32;
+
+/// What was staged since an upload was opened, in the order in which it came.
+#[derive(Debug, Drop)]
+pub struct OpenUpload {
+    kind: UploadKind,
+    request: u64,
+    since: Option<u64>,
+    lists: Vec<KeptList>,
+    /// The short lists that came after these.
+    gathered: PackedTriples,
+    /// The list that is staged next, where it is not gathered.
+    next: Option<SmallTriples>,
+    count: usize,
+    ghost counted: { count ≡ length (all_triples lists.items ++ packed_triples gathered) },
+    ghost place: { vec_len lists + min (length (packed_triples gathered)) 1 ≤ vec_capacity lists },
+}
+
+/// The small form by which a list is kept, where so many triples came before it. `None` where it is
+/// gathered.
+fn kept_form(count: usize, list: &TripleList, small: Option<SmallTriples>) -> Option<SmallTriples>
+    requires { IfSome small (λ s. small_triples s ≡ list.now.items) }
+    ensures { IfSome result (λ s. small_triples s ≡ list.now.items) }
+{
+    if list.len() >= FEW || (count == 0 && !list.is_empty()) {
+        small
+    } else {
+        None
+    }
+}
+
+impl OpenUpload {
+    ghost use Rattle.std.specs.Prelude.{◌≡◌, ◌+◌, ◌<◌, ◌^◌, [], ◌++◌, true, length, IfSome};
+    ghost use Rattle.gs_model.specs.Graphs.{empty_graph, with_triples};
+    ghost use Rattle.gs_small_triples.specs.Small.{small_triples};
+    ghost use Rattle.gs_packed_triples.specs.Triples.{HasRoomFor};
+    ghost use Rattle.gs_chronicle.specs.Uploads.{staged_triples};
+    ghost use Rattle.gs_chronicle.specs.OpenUploads.{triples_so_far, graph_so_far, HasPlace, HasRoomToStage};
+
+    /// An upload of this kind, this request number and this condition, to which nothing was staged yet.
+    /// Takes no memory.
+    pub fn new(alloc: Global, kind: UploadKind, request: u64, since: Option<u64>) -> OpenUpload
+        ensures kind { result.kind ≡ kind }
+        ensures request { result.request ≡ request }
+        ensures since { result.since ≡ since }
+        ensures triples { triples_so_far result ≡ [] }
+        ensures graph { graph_so_far result ≡ empty_graph }
+    {
+        OpenUpload {
+            kind,
+            request,
+            since,
+            lists: Vec::new(alloc),
+            gathered: PackedTriples::new(alloc),
+            next: None,
+            count: 0,
+        }
+    }
+
+    /// Makes a place for one list more, and for what is gathered. False where memory is refused.
+    fn make_place(&mut self) -> bool
+        ensures kind { self.new.kind ≡ self.old.kind }
+        ensures request { self.new.request ≡ self.old.request }
+        ensures since { self.new.since ≡ self.old.since }
+        ensures lists { self.new.lists.items ≡ self.old.lists.items }
+        ensures gathered { self.new.gathered ≡ self.old.gathered }
+        ensures place { result ≡ true → HasPlace self.new }
+    {
+        let places = self.gathered.len().min(1) + 1;
+        // Most uploads are one list.
+        let made = if self.lists.is_empty() {
+            self.lists.reserve_exact(places)
+        } else {
+            self.lists.reserve(places)
+        };
+        made.is_ok()
+    }
+
+    /// Makes room for a list, with its small form where there is one. False where memory is refused, or
+    /// where 64 bits cannot count the triples or the bytes of their texts.
+    pub fn make_room(&mut self, list: &TripleList, small: Option<SmallTriples>) -> bool
+        requires { IfSome small (λ s. small_triples s ≡ list.now.items) }
+        ensures kind { self.new.kind ≡ self.old.kind }
+        ensures request { self.new.request ≡ self.old.request }
+        ensures since { self.new.since ≡ self.old.since }
+        ensures triples { triples_so_far self.new ≡ triples_so_far self.old }
+        ensures room { result ≡ true → HasRoomToStage self.new list.now.items }
+    {
+        if self.count.checked_add(list.len()).is_none() || !self.make_place() {
+            return false;
+        }
+        drop(mem::replace(&mut self.next, kept_form(self.count, list, small)));
+        if self.next.is_some() {
+            return true;
+        }
+        self.gathered.make_room(list)
+    }
+
+    /// Adds a list to those that are gathered, for which there is room. Takes no memory.
+    fn gather(&mut self, list: &TripleList)
+        requires room { HasRoomFor self.old.gathered list.now.items }
+        requires count { self.old.count + length list.now.items < 2 ^ 64 }
+        requires place { HasPlace self.old }
+        ensures kind { self.new.kind ≡ self.old.kind }
+        ensures request { self.new.request ≡ self.old.request }
+        ensures since { self.new.since ≡ self.old.since }
+        ensures triples { triples_so_far self.new ≡ triples_so_far self.old ++ list.now.items }
+    {
+        self.count += list.len();
+        self.gathered.add(list);
+    }
+
+    /// Adds a small form after what is gathered, where there is a place for each. Takes no memory.
+    fn keep(&mut self, small: SmallTriples)
+        requires count { self.old.count + length (small_triples small) < 2 ^ 64 }
+        requires place { HasPlace self.old }
+        ensures kind { self.new.kind ≡ self.old.kind }
+        ensures request { self.new.request ≡ self.old.request }
+        ensures since { self.new.since ≡ self.old.since }
+        ensures triples { triples_so_far self.new ≡ triples_so_far self.old ++ small_triples small }
+    {
+        self.count += small.len();
+        let alloc = *self.lists.allocator();
+        let gathered = mem::replace(&mut self.gathered, PackedTriples::new(alloc));
+        keep_gathered(&mut self.lists, gathered);
+        self.lists.push_reserved(KeptList::Small(small));
+    }
+
+    /// Adds a list, for which there is room. Takes no memory.
+    #[tactic(auto, using(crate::proofs::UploadLemmas::more_staged))]
+    pub fn stage(&mut self, list: &TripleList)
+        requires { HasRoomToStage self.old list.now.items }
+        ensures kind { self.new.kind ≡ self.old.kind }
+        ensures request { self.new.request ≡ self.old.request }
+        ensures since { self.new.since ≡ self.old.since }
+        ensures triples { triples_so_far self.new ≡ triples_so_far self.old ++ list.now.items }
+        ensures graph { graph_so_far self.new ≡ with_triples (graph_so_far self.old) list.now.items }
+    {
+        match self.next.take() {
+            None => self.gather(list),
+            Some(small) => self.keep(small),
+        }
+    }
+
+    /// The upload as it is stored, after which no more will be staged. Takes no memory.
+    pub fn closed(self) -> Upload
+        ensures kind { result.kind ≡ self.kind }
+        ensures request { result.request ≡ self.request }
+        ensures since { result.since ≡ self.since }
+        ensures triples { staged_triples result ≡ triples_so_far self }
+    {
+        let OpenUpload {
+            kind,
+            request,
+            since,
+            mut lists,
+            gathered,
+            next: _,
+            count,
+        } = self;
+        keep_gathered(&mut lists, gathered);
+        Upload::new(kind, request, since, lists, count)
+    }
+}
