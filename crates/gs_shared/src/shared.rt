@@ -216,11 +216,7 @@ impl<C: CountedLedger, T: CountedLedger, B: Room> Shared<C, T, B> {
             alloc: _,
             mut records,
         } = self;
-        let SharedStore {
-            cell,
-            lock,
-            alloc: _,
-        } = store;
+        let SharedStore { cell, lock, .. } = store;
         let Locked {
             audited,
             mut register,
