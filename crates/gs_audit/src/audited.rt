@@ -112,8 +112,8 @@ impl<const ENTRIES: usize, const TRIPLES: usize> Audited<ENTRIES, TRIPLES> {
     }
 
     /// The same, with the small form of the list that the event stages, if that was made before. What the
-    /// page stores is taken out of the event; a list that was staged stays there, so that whoever has the
-    /// event lets it go.
+    /// page stores is taken out of the event. A list that goes to an open upload stays there, so that
+    /// whoever has the event frees it.
     pub fn event_with(&mut self, event: &mut Event, small: Option<SmallTriples>) -> Answer
         requires { IfSome small (λ s. small_triples s ≡ staged_by event.old) }
         ensures steps { Steps self.old.store event.old result self.new.store }

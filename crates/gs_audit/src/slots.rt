@@ -57,8 +57,8 @@ impl Slot {
     }
 }
 
-/// What a slot is after an answer to an action, and what the call decided. A list that was staged stays
-/// with the action.
+/// What a slot is after an answer to an action, and what the call decided. A list that goes to an open
+/// upload stays with the action.
 fn after(
     slot: Slot,
     alloc: Global,

@@ -13,7 +13,7 @@ use std::alloc::{AllocError, Global};
 pub enum KeptList {
     /// A list in its small form, each term mostly once.
     Small(SmallTriples),
-    /// Short lists that came one after another, packed together.
+    /// Lists that came one after another, packed together: short ones, and those without a small form.
     Gathered(ClosedTriples),
 }
 
@@ -43,7 +43,8 @@ impl KeptList {
     }
 }
 
-/// Keeps what was gathered after the lists, where there is a place for it. Takes no memory.
+/// Keeps what was gathered after the lists, where there is a place for it. Takes no memory, but for
+/// smaller blocks.
 pub(crate) fn keep_gathered(lists: &mut Vec<KeptList>, gathered: PackedTriples)
     requires { vec_len lists.old + min (length (packed_triples gathered)) 1 ≤ vec_capacity lists.old }
     ensures triples { all_triples lists.new.items ≡ all_triples lists.old.items ++ packed_triples gathered }

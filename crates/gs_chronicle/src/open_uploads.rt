@@ -13,9 +13,13 @@ use gs_triple_lists::TripleList;
 use std::alloc::Global;
 use std::mem;
 
-/// Lists of fewer triples are gathered, but the first that has any: a small form takes some 230
-/// bytes beside its triples.
+/// Lists of fewer triples are gathered, but the first that has any: a small form takes some 230 bytes
+/// beside its texts.
 const FEW: usize = 32;
+
+/// Where an upload keeps so many lists apart, all others are gathered too: each is some blocks of
+/// memory, and all are freed at once where an upload is given up.
+const MOST: usize = 16_384;
 
 /// What was staged since an upload was opened, in the order in which it came.
 #[derive(Debug, Drop)]
@@ -24,22 +28,28 @@ pub struct OpenUpload {
     request: u64,
     since: Option<u64>,
     lists: Vec<KeptList>,
-    /// The short lists that came after these.
+    /// What came after these and is kept by no small form.
     gathered: PackedTriples,
-    /// The list that is staged next, where it is not gathered.
+    /// The list that is staged next, where it is not gathered, or one that the store refused.
     next: Option<SmallTriples>,
     count: usize,
     ghost counted: { count ≡ length (all_triples lists.items ++ packed_triples gathered) },
     ghost place: { vec_len lists + min (length (packed_triples gathered)) 1 ≤ vec_capacity lists },
 }
 
-/// The small form by which a list is kept, where so many triples came before it. `None` where it is
-/// gathered.
-fn kept_form(count: usize, list: &TripleList, small: Option<SmallTriples>) -> Option<SmallTriples>
+/// The small form by which a list is kept, where so many triples came before it, and so many lists are
+/// kept apart. `None` where it is gathered.
+fn kept_form(
+    count: usize,
+    lists: usize,
+    list: &TripleList,
+    small: Option<SmallTriples>,
+) -> Option<SmallTriples>
     requires { IfSome small (λ s. small_triples s ≡ list.now.items) }
     ensures { IfSome result (λ s. small_triples s ≡ list.now.items) }
 {
-    if list.len() >= FEW || (count == 0 && !list.is_empty()) {
+    let is_first = count == 0 && !list.is_empty();
+    if is_first || (list.len() >= FEW && lists < MOST) {
         small
     } else {
         None
@@ -106,7 +116,8 @@ impl OpenUpload {
         if self.count.checked_add(list.len()).is_none() || !self.make_place() {
             return false;
         }
-        drop(mem::replace(&mut self.next, kept_form(self.count, list, small)));
+        let next = kept_form(self.count, self.lists.len(), list, small);
+        drop(mem::replace(&mut self.next, next));
         if self.next.is_some() {
             return true;
         }
@@ -127,7 +138,8 @@ impl OpenUpload {
         self.gathered.add(list);
     }
 
-    /// Adds a small form after what is gathered, where there is a place for each. Takes no memory.
+    /// Adds a small form after what is gathered, where there is a place for each. Takes no memory, but for
+    /// smaller blocks for what is gathered.
     fn keep(&mut self, small: SmallTriples)
         requires count { self.old.count + length (small_triples small) < 2 ^ 64 }
         requires place { HasPlace self.old }
@@ -143,7 +155,7 @@ impl OpenUpload {
         self.lists.push_reserved(KeptList::Small(small));
     }
 
-    /// Adds a list, for which there is room. Takes no memory.
+    /// Adds a list, for which there is room. Takes no memory, but for smaller blocks for what is gathered.
     #[tactic(auto, using(crate::proofs::UploadLemmas::more_staged))]
     pub fn stage(&mut self, list: &TripleList)
         requires { HasRoomToStage self.old list.now.items }
@@ -159,7 +171,8 @@ impl OpenUpload {
         }
     }
 
-    /// The upload as it is stored, after which no more will be staged. Takes no memory.
+    /// The upload as it is stored, after which no more will be staged. Takes no memory, but for smaller
+    /// blocks.
     pub fn closed(self) -> Upload
         ensures kind { result.kind ≡ self.kind }
         ensures request { result.request ≡ self.request }
@@ -176,6 +189,7 @@ impl OpenUpload {
             count,
         } = self;
         keep_gathered(&mut lists, gathered);
+        lists.shrink_to_fit();
         Upload::new(kind, request, since, lists, count)
     }
 }

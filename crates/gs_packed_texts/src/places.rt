@@ -32,8 +32,9 @@ fn common_front(anchor: &[u8], text: &[u8]) -> usize
 }
 
 /// How a text is packed after the texts of a window. An IRI that has less than three quarters of itself
-/// from the anchor is the next anchor: IRIs of two namespaces on one host share more than half, and would
-/// not part. A literal or a blank node never is, so it does not part IRIs that begin alike.
+/// from the anchor is the next anchor, unless it has as many bytes of that as any text may: IRIs of two
+/// namespaces on one host share more than half, and would not part. A literal or a blank node never is, so
+/// it does not part IRIs that begin alike.
 pub fn placed(bytes: &[u8], window: Window, text: &[u8]) -> Place
     requires short { length text.now ≤ 65_535 }
     requires window { IsWindowIn (length bytes.now) window }
@@ -52,7 +53,7 @@ pub fn placed(bytes: &[u8], window: Window, text: &[u8]) -> Place
         };
     }
     let front = common_front(bytes_at(bytes, window.anchor), text);
-    if text.first() == Some(&b'<') && 4 * front < 3 * text.len() {
+    if text.first() == Some(&b'<') && front < MAX_FRONT && 4 * front < 3 * text.len() {
         return Place {
             mark: WHOLE,
             front: 0,

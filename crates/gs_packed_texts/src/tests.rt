@@ -107,10 +107,11 @@ const ROOMS: [(&str, [usize; 2], &[&str], [usize; 3]); 4] = [
 
 /// A name, of how many bytes two texts are that differ in the last one, and how many bytes of their own
 /// they have.
-const LONG: [(&str, usize, usize); 3] = [
+const LONG: [(&str, usize, usize); 4] = [
     ("251 bytes in common", 252, 253),
     ("299 bytes in common", 300, 348),
-    ("the longest texts", 65_535, 131_070),
+    ("399 bytes in common", 400, 548),
+    ("the longest texts", 65_535, 130_818),
 ];
 
 /// Adds a text, after room was made for it.

@@ -41,14 +41,14 @@ impl<C: Ledger, T: Ledger, B: Room> SharedStore<C, T, B> {
             .lock
             .lock(rt)
             .event(rt, &self.cell, pass, &mut event, asked, small);
-        // Its list goes outside of the lock.
+        // The list of a Stage is freed here, after the lock.
         drop(event);
         answer
     }
 }
 
 /// The small form of the list that an event stages. `None` for another event, and where memory is
-/// refused: then the list is packed under the lock.
+/// refused: then the list is packed under the lock, as most short ones are.
 fn small_form(alloc: Global, event: &Event) -> Option<SmallTriples>
     ensures { IfSome result (λ s. small_triples s ≡ staged_by event.now) }
 {
