@@ -13,3 +13,5 @@ mod rows;
 mod scopes;
 #[cfg(test)]
 mod stores;
+#[cfg(test)]
+mod uploads;

@@ -50,6 +50,29 @@ pub fn triples(alloc: Global, count: u8) -> Result<TripleList, Refusal> {
     Ok(TripleList::of(alloc, list)?)
 }
 
+/// The triple of a number: its subject is an IRI of its own and its object a literal. Each third triple is
+/// the first one again.
+fn numbered_triple(alloc: Global, number: usize) -> Result<Triple, Refusal> {
+    let number = if number % 3 == 2 { 0 } else { number };
+    let name = format!(in alloc; "http://e/{number}")?;
+    let subject = TermText::iri(alloc, name.as_str())?;
+    let predicate = TermText::iri(alloc, "http://e/p")?;
+    let object = TermText::literal(alloc, name.as_str(), None, None)?;
+    if !subject.is_subject() || !predicate.is_iri() {
+        return Err(Refusal::Syntax(0));
+    }
+    Ok(Triple::new(subject, predicate, object))
+}
+
+/// So many numbered triples from this one on.
+pub fn numbered(alloc: Global, first: usize, count: usize) -> Result<Vec<Triple>, Refusal> {
+    let mut list = Vec::new(alloc);
+    for number in first..first.saturating_add(count) {
+        list.push(numbered_triple(alloc, number)?)?;
+    }
+    Ok(list)
+}
+
 /// The named graph that rows write.
 pub fn cats(alloc: Global) -> Result<Target, Refusal> {
     Ok(Target::Named(GraphName::new(alloc, "http://e/cats")?))

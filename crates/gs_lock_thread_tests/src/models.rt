@@ -63,19 +63,11 @@ fn add_all(alloc: Global, lines: &mut Vec<Vec<u8>>, triples: &[Triple]) -> Resul
     Ok(())
 }
 
-/// Adds the line of each triple of an upload.
-fn add_staged(alloc: Global, lines: &mut Vec<Vec<u8>>, upload: &Upload) -> Result<(), Refusal> {
-    let mut triples = upload.triples();
-    while let Some(triple) = triples.next() {
-        add(alloc, lines, &triple.to_triple(alloc)?)?;
-    }
-    Ok(())
-}
-
 /// The lines of all triples of an upload.
 fn staged(alloc: Global, upload: &Upload) -> Result<Vec<Vec<u8>>, Refusal> {
+    let triples = upload.to_vec(alloc)?;
     let mut lines = Vec::new(alloc);
-    add_staged(alloc, &mut lines, upload)?;
+    add_all(alloc, &mut lines, triples.as_slice())?;
     Ok(lines)
 }
 

@@ -1,7 +1,7 @@
 //! Triples packed and read back, beside the texts of their terms, written by hand (N-Triples, section 2, and its
 //! canonical form).
 use gs_model::Refusal;
-use gs_packed_triples::{PackedTriples, SplitText};
+use gs_packed_triples::{PackedTriple, PackedTriples, SplitText, UnpackedTriples};
 use gs_term::{TermText, Triple};
 use gs_triple_lists::TripleList;
 use std::alloc::{AllocError, Global};
@@ -103,44 +103,89 @@ fn is_text(alloc: Global, text: SplitText, number: usize) -> Result<bool, AllocE
     }
 }
 
-/// How many triples were read as they were added, up to the first that was not.
-fn right_triples(alloc: Global, packed: &PackedTriples) -> Result<usize, Refusal> {
-    let mut right = 0usize;
-    let mut reader = packed.triples();
+/// Whether the triple that is read has the terms of these numbers.
+fn is_triple(alloc: Global, read: PackedTriple, row: &[usize; 3]) -> Result<bool, Refusal> {
+    let texts = is_text(alloc, read.subject(), row[0])?
+        && is_text(alloc, read.predicate(), row[1])?
+        && is_text(alloc, read.object(), row[2])?;
+    Ok(texts && read.to_triple(alloc)? == triple(alloc, row)?)
+}
+
+/// Whether a reader gives the triples of all lists as they were added, and no others.
+fn are_given(alloc: Global, mut reader: UnpackedTriples<'_>) -> Result<bool, Refusal> {
     for rows in &LISTS {
         for row in *rows {
             let Some(read) = reader.next() else {
-                return Ok(right);
+                return Ok(false);
             };
-            let texts = is_text(alloc, read.subject(), row[0])?
-                && is_text(alloc, read.predicate(), row[1])?
-                && is_text(alloc, read.object(), row[2])?;
-            if !texts || read.to_triple(alloc)? != triple(alloc, row)? {
-                return Ok(right);
+            if !is_triple(alloc, read, row)? {
+                return Ok(false);
             }
-            right = right.saturating_add(1);
         }
     }
-    if reader.next().is_some() {
-        return Ok(0);
-    }
-    Ok(right)
+    Ok(reader.next().is_none())
 }
 
-/// How many triples are packed of all lists, and how many are read as they were added.
-fn packed_and_read(alloc: Global) -> Result<(usize, usize), Refusal> {
+/// What is wrong of the triples of all lists, packed and then closed.
+fn wrong_part(alloc: Global) -> Result<Option<&'static str>, Refusal> {
     let mut packed = PackedTriples::new(alloc);
-    let added = pack_all(alloc, &mut packed);
-    let count = packed.len();
-    let right = right_triples(alloc, &packed);
-    drop(packed);
-    added?;
-    Ok((count, right?))
+    pack_all(alloc, &mut packed)?;
+    if packed.len() != 11 {
+        return Ok(Some("the number of packed triples"));
+    }
+    if !are_given(alloc, packed.triples())? {
+        return Ok(Some("the packed triples"));
+    }
+    let closed = packed.closed();
+    if closed.len() != 11 {
+        return Ok(Some("the number of closed triples"));
+    }
+    let are_right = are_given(alloc, closed.triples())?;
+    Ok(if are_right {
+        None
+    } else {
+        Some("the closed triples")
+    })
+}
+
+/// A name, the terms of the triples of a list, and for how many bytes of texts there is room once they are
+/// closed. The first triple has 28, 31 and 2 bytes, and the object of the other one has 16: of the room for
+/// two triples 61 of 122 bytes are filled, or 77 of 136, and no more is left.
+const ROOMS: [(&str, &[[usize; 3]], usize); 4] = [
+    ("no triple", &[], 0),
+    ("a triple", &[[0, 2, 5]], 61),
+    ("a triple twice", &[[0, 2, 5], [0, 2, 5]], 61),
+    ("two objects", &[[0, 2, 5], [0, 2, 6]], 77),
+];
+
+/// Whether a list that was packed and closed has so much room.
+fn has_room(alloc: Global, rows: &[[usize; 3]], room: usize) -> Result<bool, Refusal> {
+    let mut packed = PackedTriples::new(alloc);
+    let is_packed = pack(alloc, rows, &mut packed)?;
+    let closed = packed.closed();
+    Ok(is_packed && closed.len() == rows.len() && closed.capacity() == room)
+}
+
+/// The name of the first row of rooms that is wrong.
+fn wrong_room(alloc: Global) -> Result<Option<&'static str>, Refusal> {
+    for row in &ROOMS {
+        let (name, rows, room) = *row;
+        if !has_room(alloc, rows, room)? {
+            return Ok(Some(name));
+        }
+    }
+    Ok(None)
 }
 
 #[test]
 fn triples_are_read_as_they_were_added(rt: HostRuntime) -> Result<(), Fail> {
-    assert_eq!(rt; packed_and_read(rt.alloc())?, (11, 11));
+    assert_eq!(rt; wrong_part(rt.alloc())?, None);
+    Ok(())
+}
+
+#[test]
+fn closed_triples_give_their_room_back(rt: HostRuntime) -> Result<(), Fail> {
+    assert_eq!(rt; wrong_room(rt.alloc())?, None);
     Ok(())
 }
 
