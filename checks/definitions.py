@@ -42,7 +42,7 @@ PROMISES = (
             "gs_shared::Shared::end",
             "gs_shared::Shared::passes",
             "gs_shared::SharedStore::event",
-            "gs_audit::Audited::event",
+            "gs_audit::Audited::event_with",
             "gs_audit::Audited::page",
         ),
     ),

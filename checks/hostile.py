@@ -427,11 +427,11 @@ DEAR = [
      f"BASE <http://e/{LONG}>" + " BASE <>" * 12_500, 1.0, 503),
     ("an update of 415 kB, 50,000 of whose terms leave nearly all of its base out", "PATCH", "application/sparql-update",
      f"BASE <http://e/{LONG}/z> INSERT DATA {{ <a:a> <a:b> {','.join(['<../y>'] * 50_000)} }}", 1.0, 204),
-    ("an update of 990 kB, each word of its patterns a prefix of 65,000 bytes", "PATCH", "application/sparql-update",
+    ("an update of 1,041 kB, each word of its patterns a prefix of 65,000 bytes", "PATCH", "application/sparql-update",
      f"PREFIX p: <http://e/{LONG}> " + ";".join([f"DELETE WHERE {{ {'p: p: p: . ' * 4}}}"] * 16_000), 1.0, 503),
-    ("a body of 1 MB, 200,000 objects by 200 prefixes of 5,000 bytes", "PUT", "text/turtle",
+    ("a body of 2.1 MB, 200,000 objects by 200 prefixes of 5,000 bytes", "PUT", "text/turtle",
      "".join(f"PREFIX p{k}: <http://e/{'a' * 5_000}{k}> " for k in range(200)) + f"<a:a> <a:b> {','.join(f'p{k % 200}:' for k in range(200_000))} .", 0.5, 503),
-    ("a body of 1 MB, whose every term is another one of 65,000 bytes by its prefix", "PUT", "text/turtle",
+    ("a body of 970 kB, whose every term is another one of 65,000 bytes by its prefix", "PUT", "text/turtle",
      f"PREFIX p: <http://e/{LONG}> " + "".join(f"p:{3 * k} p:{3 * k + 1} p:{3 * k + 2} . " for k in range(35_000)), 1.0, 503),
 ]
 
@@ -498,9 +498,9 @@ def empty_puts(program, rounds, warm=70_000, many=100_000, wanted=4_000_000):
     return holds
 
 
-def small_puts(program, rounds, warm=1_000, many=20_000, wanted=40_000_000):
+def small_puts(program, rounds, warm=1_000, many=20_000, wanted=48_000_000):
     """How much memory PUTs of 60 triples take in the page of what was asked: each triple has terms of 74 bytes, and takes some
-    14 once it is packed."""
+    25 in its small form."""
     lines = [line(f"<http://example.org/s/{number}>", "<http://example.org/p>", f"<http://example.org/o/{number}>") for number in range(100, 160)]
     grown = []
     for _ in range(rounds):
