@@ -53,18 +53,27 @@ fn predicates_of(
     Ok(is_predicate)
 }
 
+/// How many bytes the texts of these terms have in all.
+fn bytes_of(terms: &[TermText]) -> usize {
+    let mut bytes = 0usize;
+    for term in terms {
+        bytes = bytes.saturating_add(term.as_bytes().len());
+    }
+    bytes
+}
+
 impl Packing {
     ghost use Rattle.std.specs.Prelude.{◌≡◌, ◌<◌, ℕ, false, length, map, slice_index_or, IfOk, OnOk};
     ghost use Rattle.std.specs.List.{All};
     ghost use Rattle.gs_small_triples.specs.Packed.{IsPlaced, StayPlaced, ArePlaced, HavePlaces};
 
-    /// No texts, and a place yet to be noted for each of so many terms.
-    fn new(alloc: Global, terms: usize) -> Result<Packing, AllocError>
-        ensures { IfOk result (λ p. length p.places.items ≡ terms) }
+    /// No texts, with room for those of these terms, and a place yet to be noted for each.
+    fn new(alloc: Global, terms: &[TermText]) -> Result<Packing, AllocError>
+        ensures { IfOk result (λ p. length p.places.items ≡ length terms.now) }
     {
         let mut texts = PackedTexts::new(alloc);
-        texts.make_room(terms, 0)?;
-        let places = vec![in alloc; 0u32; terms]?;
+        texts.make_room(terms.len(), bytes_of(terms))?;
+        let places = vec![in alloc; 0u32; terms.len()]?;
         Ok(Packing {
             texts,
             places,
@@ -143,7 +152,7 @@ impl Packing {
         ensures placed { IfOk result (ArePlaced terms.now) }
     {
         let is_predicate = predicates_of(alloc, terms.len(), numbers)?;
-        let mut packing = Packing::new(alloc, terms.len())?;
+        let mut packing = Packing::new(alloc, terms)?;
         packing.pack_kind(terms, &is_predicate, true)?;
         packing.pack_kind(terms, &is_predicate, false)?;
         Ok(packing)
