@@ -132,7 +132,7 @@ fn last_upload(store: &Wide) -> Option<&Upload> {
 }
 
 /// Whether the last upload of a page has just the triples of lists of these lengths, in their order.
-fn is_stored(alloc: Global, store: &Wide, counts: &[usize]) -> Result<bool, Refusal> {
+pub fn is_stored(alloc: Global, store: &Wide, counts: &[usize]) -> Result<bool, Refusal> {
     let Some(upload) = last_upload(store) else {
         return Ok(false);
     };
