@@ -6,7 +6,7 @@ use std::alloc::{AllocError, Global};
 use std::test::Fail;
 
 /// A name, the texts, and how many bytes of their own they have in all.
-const ROWS: [(&str, &[&str], usize); 12] = [
+const ROWS: [(&str, &[&str], usize); 14] = [
     ("no text", &[], 0),
     ("empty texts", &["", "", "", ""], 0),
     (
@@ -29,6 +29,11 @@ const ROWS: [(&str, &[&str], usize); 12] = [
         "less than three quarters of an IRI from the anchor",
         &["<e:abcd>", "", "", "<e:abxy>", "", "", "<e:abxz>"],
         18,
+    ),
+    (
+        "eight of eleven bytes from the anchor",
+        &["<e:abcdefg>", "", "", "<e:abcdexy>", "", "", "<e:abcdexz>"],
+        24,
     ),
     (
         "two texts in turn",
@@ -60,6 +65,19 @@ const ROWS: [(&str, &[&str], usize); 12] = [
             "<http://e.org/things/2>",
         ],
         28,
+    ),
+    (
+        "a blank node between IRIs",
+        &[
+            "<http://e.org/things/1>",
+            "",
+            "",
+            "_:b1",
+            "",
+            "",
+            "<http://e.org/things/2>",
+        ],
+        29,
     ),
     (
         "an IRI that is the next anchor",

@@ -78,7 +78,7 @@ fn comes(left: &mut Texts<'_>, text: &[u8]) -> bool {
     }
 }
 
-/// The first term that is not packed at its place.
+/// The first term that is not packed at its place, or what is packed after all of them.
 fn wrong_place(alloc: Global) -> Result<Option<&'static str>, Refusal> {
     let list = list_of(alloc, 2)?;
     let (terms, numbers) = list.parts();
@@ -89,7 +89,12 @@ fn wrong_place(alloc: Global) -> Result<Option<&'static str>, Refusal> {
             return Ok(Some(*text));
         }
     }
-    Ok(None)
+    let is_end = left.next().is_none();
+    Ok(if is_end {
+        None
+    } else {
+        Some("a text after them")
+    })
 }
 
 /// The first count of terms whose numbers take another number of bytes.
