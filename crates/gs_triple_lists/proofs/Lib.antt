@@ -1,3 +1,4 @@
 pub mod ListLemmas
 pub mod RankLemmas
 pub mod OrderLemmas
+pub mod RenumberLemmas

@@ -2,6 +2,7 @@
 use Rattle.std.proofs.Common.{◌≡◌, ◌<◌, ℕ, true, List, [], ◌∷◌, ◌++◌, length, slice_get, get_or, take, reverse, Some, refl, sym, ap, ◌∙◌, arith, append-nil}
 use Rattle.std.proofs.lemmas.List.{map-append, length-append, append_assoc, get_or_append_left, reverse-reverse, reverse-append}
 use Rattle.std.proofs.Math.Seq.{take-append_seam}
+use Rattle.std.specs.Prelude.{Result, Ok, Err, OnErr}
 use Rattle.std.proofs.lemmas.List.Elements.{All-head, All-tail, All-push, All-weaker}
 use Rattle.std.proofs.lemmas.Option.{slice_get-get_or, slice_get_within, get_or_from_slice_get}
 use Rattle.std.proofs.lemmas.Slice.Eq.{bytes_eq-Decides}
@@ -10,6 +11,11 @@ use Rattle.gs_model.specs.Triples.{RdfTriple, term_eq, has_kinds}
 use Rattle.gs_model.proofs.TextLemmas.{text_of-injective}
 use Rattle.gs_triple_lists.specs.declared.lists.TripleNumbers.{TripleNumbers}
 use Rattle.gs_triple_lists.specs.Kept.{HasMore, term_of_number, triple_of_numbers, IsTripleIn, AreNumbersOf, AreTriplesIn, triples_of_numbers}
+
+-- what holds anyway holds where a call is refused
+pub on_err : {T E P : Type 0} (r : Result T E) → P → OnErr r P
+on_err (Ok x) p = tt
+on_err (Err e) p = p
 
 -- terms that compare as equal are one
 pub same_term : (t u : Term) → term_eq t u ≡ true → t ≡ u

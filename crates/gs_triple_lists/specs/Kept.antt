@@ -1,5 +1,5 @@
 -- How a list of triples is kept: as terms, and three of their numbers for each triple.
-use Rattle.std.specs.Prelude.{◌≡◌, ℕ, ◌<◌, List, [], ◌++◌, map, length, slice_index_or, true}
+use Rattle.std.specs.Prelude.{◌≡◌, ℕ, ◌<◌, List, [], ◌++◌, map, length, slice_get, slice_index, slice_index_or, true}
 use Rattle.std.specs.List.{All}
 use Rattle.gs_model.specs.Terms.{Term, Iri}
 use Rattle.gs_model.specs.Triples.{RdfTriple, has_kinds}
@@ -41,3 +41,18 @@ AreTriplesIn terms ks = All (IsTripleIn terms) ks
 -- the triples of these numbers
 abbrev pub triples_of_numbers : List Term → List TripleNumbers → List RdfTriple
 triples_of_numbers terms ks = map (triple_of_numbers terms) ks
+
+-- these are numbers of these terms, each at its place
+pub record AreNumbersIn (all given : List Term) (ns : List ℕ) : Type 0 where
+  pub count : length ns ≡ length given
+  pub terms : (n : ℕ) → n < length given → slice_get all (slice_index ns n) ≡ slice_get given n
+
+-- three numbers are below this one
+pub record AreWithin (count : ℕ) (k : TripleNumbers) : Type 0 where
+  pub subject : k.subject < count
+  pub predicate : k.predicate < count
+  pub object : k.object < count
+
+-- three numbers, each by what stands at its place
+abbrev pub renumbered_by : List ℕ → TripleNumbers → TripleNumbers
+renumbered_by ns k = record { subject = slice_index ns k.subject; predicate = slice_index ns k.predicate; object = slice_index ns k.object }

@@ -1,7 +1,9 @@
 //! Lists of triples.
-ghost use Rattle.std.specs.Prelude.{◌≡◌, ◌==◌, [], ◌∷◌, ◌++◌, length, take, slice_get, Some, IfOk, IfSome, OnOk, OnErr};
+ghost use Rattle.std.specs.Prelude.{◌≡◌, ◌==◌, [], ◌∷◌, ◌++◌, map, length, take, slice_get, Some, IfOk, IfSome, OnOk, OnErr};
+ghost use Rattle.std.specs.List.{All};
 ghost use Rattle.gs_triple_lists.specs.Lists.{listed};
-ghost use Rattle.gs_triple_lists.specs.Kept.{HasMore, AreNumbersOf, AreTriplesIn, triples_of_numbers};
+ghost use Rattle.gs_triple_lists.specs.Kept.{HasMore, AreNumbersOf, AreNumbersIn, AreTriplesIn, AreWithin};
+ghost use Rattle.gs_triple_lists.specs.Kept.{triples_of_numbers, renumbered_by};
 ghost use Rattle.gs_triple_lists.specs.Readers.{listed_left};
 ghost use Rattle.gs_triple_lists.specs.Orders.{IsOrderOf};
 
@@ -11,6 +13,7 @@ use crate::tables::TermTable;
 use gs_term::{TermText, Triple};
 use std::alloc::{AllocError, Global};
 use std::marker::Model;
+use std::mem;
 
 /// The ranks of the terms of so few triples cost more than they spare the store.
 const SHORT: usize = 4_096;
@@ -87,6 +90,62 @@ fn numbers_of(
     })
 }
 
+/// Puts all terms of a table into another one, in their order, and gives their numbers there.
+fn moved_terms(
+    alloc: Global,
+    from: &mut TermTable,
+    to: &mut TermTable,
+) -> Result<Vec<u32>, AllocError>
+    ensures more { HasMore to.old.terms.items to.new.terms.items }
+    ensures ok { IfOk result (λ v. AreNumbersIn to.new.terms.items from.old.terms.items v.items) }
+{
+    let mut numbers = Vec::with_capacity(alloc, from.terms.len())?;
+    from.terms.reverse();
+    while let Some(term) = from.terms.pop() {
+        let number = to.number_of(term)?;
+        numbers.push(number)?;
+    }
+    Ok(numbers)
+}
+
+/// The numbers of a triple's terms among others, by those that the terms have there.
+fn renumbered(numbers: &[u32], three: TripleNumbers) -> TripleNumbers
+    requires within { AreWithin (length numbers.now) three }
+    ensures { result ≡ renumbered_by numbers.now three }
+{
+    TripleNumbers {
+        subject: numbers[three.subject as usize],
+        predicate: numbers[three.predicate as usize],
+        object: numbers[three.object as usize],
+    }
+}
+
+/// Gives triples the numbers that their terms have among others.
+fn renumber(numbers: &[u32], threes: &mut [TripleNumbers])
+    requires within { All (AreWithin (length numbers.now)) threes.old }
+    ensures { threes.new ≡ map (renumbered_by numbers.now) threes.old }
+{
+    for three in threes.iter_mut() {
+        *three = renumbered(numbers, *three);
+    }
+}
+
+/// Moves triples to the end of others, with the numbers that their terms have among these.
+fn append_renumbered(
+    known: &mut Vec<TripleNumbers>,
+    threes: &mut Vec<TripleNumbers>,
+    numbers: &[u32],
+) -> Result<(), AllocError>
+    requires within { All (AreWithin (length numbers.now)) threes.old.items }
+    ensures added { OnOk result (known.new.items
+        ≡ known.old.items ++ map (renumbered_by numbers.now) threes.old.items) }
+    ensures taken { OnOk result (threes.new.items ≡ []) }
+    ensures kept { OnErr result (known.new.items ≡ known.old.items) }
+{
+    renumber(numbers, threes);
+    known.append(threes)
+}
+
 impl TripleList {
     /// Without triples. Takes no memory.
     pub fn new(alloc: Global) -> TripleList
@@ -142,6 +201,46 @@ impl TripleList {
         Ok(())
     }
 
+    /// Moves the triples of a list to the end of one that has some.
+    fn take_terms_from(&mut self, other: &mut TripleList) -> Result<(), AllocError>
+        ensures added { OnOk result (self.new ≡ listed (self.old.items ++ other.old.items)) }
+        ensures kept { OnErr result (self.new ≡ self.old) }
+    {
+        self.order = Order::Unknown;
+        other.order = Order::Unknown;
+        let alloc = *self.numbers.allocator();
+        let mut threes = mem::replace(&mut other.numbers, Vec::new(alloc));
+        let numbers = moved_terms(alloc, &mut other.table, &mut self.table)?;
+        append_renumbered(&mut self.numbers, &mut threes, &numbers)?;
+        other.numbers = threes;
+        Ok(())
+    }
+
+    /// Moves the triples of a list to the end, in their order, so that it is empty. Where memory is
+    /// refused, none is added, and the other list is of no more use.
+    pub fn take_from(&mut self, other: &mut TripleList) -> Result<(), AllocError>
+        ensures added { OnOk result (self.new ≡ listed (self.old.items ++ other.old.items)) }
+        ensures taken { OnOk result (other.new ≡ listed []) }
+        ensures kept { OnErr result (self.new ≡ self.old) }
+    {
+        if self.is_empty() {
+            mem::swap(self, other);
+        } else {
+            self.take_terms_from(other)?;
+        }
+        other.clear();
+        Ok(())
+    }
+
+    /// Leaves no triple and no term. The room for them stays.
+    pub fn clear(&mut self)
+        ensures { self.new ≡ listed [] }
+    {
+        self.order = Order::Unknown;
+        self.numbers.clear();
+        self.table.clear();
+    }
+
     /// Moves these triples to the end, in their order. Where memory is refused, none is added, some of
     /// the argument's are gone, and its others stand in reverse.
     pub fn append(&mut self, triples: &mut Vec<Triple>) -> Result<(), AllocError>
@@ -187,6 +286,14 @@ impl TripleList {
     {
         self.order = Order::Unknown;
         self.numbers.truncate(count);
+    }
+
+    /// Gives back room that its triples and its terms do not take.
+    pub fn shrink_to_fit(&mut self)
+        ensures { self.new ≡ self.old }
+    {
+        self.numbers.shrink_to_fit();
+        self.table.terms.shrink_to_fit();
     }
 
     /// Puts its triples in order, for `ordered_parts`, until the list is changed. The triples stay as they

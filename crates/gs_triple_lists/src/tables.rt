@@ -163,4 +163,13 @@ impl TermTable {
         }
         self.number_by_hash(term)
     }
+
+    /// Without terms again.
+    pub fn clear(&mut self)
+        ensures { self.new.terms.items ≡ [] }
+    {
+        self.terms.clear();
+        self.links.clear();
+        self.heads.clear();
+    }
 }

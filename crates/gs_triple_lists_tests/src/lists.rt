@@ -25,6 +25,37 @@ pub fn triple(alloc: Global, text: &str) -> Result<Triple, Refusal> {
     Ok(Triple::new(subject, predicate, object))
 }
 
+/// Adds six triples, whose terms begin with a word.
+fn push_six(alloc: Global, word: &str, triples: &mut Vec<Triple>) -> Result<(), Refusal> {
+    for number in 0u64..6 {
+        let text = format!(in alloc; "{word}{number} {word}p{number} {word}o{number}")?;
+        triples.push(triple(alloc, text.as_str())?)?;
+    }
+    Ok(())
+}
+
+/// Adds the triples of a piece of a text.
+fn push_piece(alloc: Global, piece: &str, triples: &mut Vec<Triple>) -> Result<(), Refusal> {
+    if piece.is_empty() {
+        Ok(())
+    } else if piece.contains(' ') {
+        triples.push(triple(alloc, piece)?)?;
+        Ok(())
+    } else {
+        push_six(alloc, piece, triples)
+    }
+}
+
+/// The triples of a text, with a comma between two pieces. A piece is a triple, or a word alone, which stands
+/// for six triples with 18 terms of its own.
+pub fn triples(alloc: Global, text: &str) -> Result<Vec<Triple>, Refusal> {
+    let mut triples = Vec::new(alloc);
+    for piece in text.split(',') {
+        push_piece(alloc, piece.trim(), &mut triples)?;
+    }
+    Ok(triples)
+}
+
 /// Whether a triple of a list is this one.
 fn is_same(listed: ListedTriple, triple: &Triple) -> bool {
     listed.subject() == triple.subject()
@@ -33,7 +64,7 @@ fn is_same(listed: ListedTriple, triple: &Triple) -> bool {
 }
 
 /// Whether a list has exactly the first triples and then these. Takes no memory.
-fn has_both(list: &TripleList, first: &[Triple], triples: &[Triple]) -> bool {
+pub fn has_both(list: &TripleList, first: &[Triple], triples: &[Triple]) -> bool {
     let mut left = list.triples();
     for triple in first.iter().chain(triples.iter()) {
         let Some(listed) = left.next() else {
@@ -61,7 +92,7 @@ const FIRST: [&str; 6] = [
 const FIRST_TERMS: usize = 18;
 
 /// Adds triples to a list.
-fn push_each(list: &mut TripleList, triples: &[Triple]) -> Result<(), Refusal> {
+pub fn push_each(list: &mut TripleList, triples: &[Triple]) -> Result<(), Refusal> {
     for triple in triples {
         list.push(triple.clone()?)?;
     }

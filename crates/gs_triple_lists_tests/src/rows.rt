@@ -1,8 +1,7 @@
 //! Lists of a few triples, with how many terms each keeps, counted by hand.
-use crate::lists::{terms_of, triple};
+use crate::lists::{terms_of, triples};
 use crate::outcome::none_wrong;
 use gs_model::Refusal;
-use gs_term::Triple;
 use std::alloc::Global;
 use std::test::Fail;
 
@@ -25,18 +24,6 @@ a literal is no IRI of its characters | a p b, a p "b | 4
 a literal again | a p "b, c q "b | 5
 a term that goes on is another | a p b, aa p b, ab p bb | 6
 "#;
-
-/// The triples of a text, with a comma between two.
-fn triples(alloc: Global, text: &str) -> Result<Vec<Triple>, Refusal> {
-    let mut triples = Vec::new(alloc);
-    for piece in text.split(',') {
-        let piece = piece.trim();
-        if !piece.is_empty() {
-            triples.push(triple(alloc, piece)?)?;
-        }
-    }
-    Ok(triples)
-}
 
 /// Whether a row is right.
 fn is_so(alloc: Global, row: &str) -> Result<bool, Refusal> {

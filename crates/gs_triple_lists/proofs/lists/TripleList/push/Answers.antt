@@ -1,14 +1,8 @@
 use Rattle.std.proofs.Common.{◌∙◌, [], ◌∷◌, ◌++◌, ap, sym, subst}
-use Rattle.std.specs.Prelude.{Result, Ok, Err, OnErr}
 use Rattle.gs_triple_lists.specs.Lists.{listed}
 use Rattle.gs_triple_lists.specs.Kept.{AreTriplesIn, triples_of_numbers}
-use Rattle.gs_triple_lists.proofs.ListLemmas.{triples_stay, one_more, all_known}
+use Rattle.gs_triple_lists.proofs.ListLemmas.{on_err, triples_stay, one_more, all_known}
 use Rattle.gs_triple_lists.proofs.lists.TripleList.push.Goals as goal
-
--- what holds anyway
-on_err : {T E P : Type 0} (r : Result T E) → P → OnErr r P
-on_err (Ok x) p = tt
-on_err (Err e) p = p
 
 pub returns-in_err-three-clause-kept : goal.returns-in_err-three-clause-kept
 returns-in_err-three-clause-kept c =
