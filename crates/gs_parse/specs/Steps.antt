@@ -3,6 +3,7 @@ use Rattle.std.specs.Prelude.{◌≡◌, ℕ, List, [], ◌++◌, Option, Result
 use Rattle.gs_model.specs.Triples.{RdfTriple}
 use Rattle.gs_body.specs.Bodies.{all_stated, end_after}
 use Rattle.gs_document.specs.Contexts.{TurtleContext}
+use Rattle.gs_triple_values.specs.Typed.{terms}
 use Rattle.gs_triple_values.specs.Views.{symbol_at}
 use Rattle.gs_triple_parser.specs.Views.{pending_triples}
 use Rattle.gs_token_terms.specs.declared.symbols.Symbol.{Symbol}
@@ -28,7 +29,7 @@ transition_within p t = transition_at p place.Within t
 
 -- after triples, where the symbol is to be their dot
 abbrev pub transition_after : Parser → Symbol → Transition
-transition_after p t = machine.conclude (symbol_at t) (context_at p) (pending_triples p.triples) (parser_numbers p)
+transition_after p t = machine.conclude (symbol_at t) (context_at p) (pending_triples terms p.triples) (parser_numbers p)
 
 -- the context in which the directive's prefix is declared by the text of a reference
 abbrev pub declared : Parser → List ℕ → Option TurtleContext

@@ -52,7 +52,7 @@ impl Parser {
             self.lose();
             return Ok(());
         };
-        self.triples.list_in(triples)?;
+        self.triples.append_to(triples)?;
         self.between(end);
         Ok(())
     }

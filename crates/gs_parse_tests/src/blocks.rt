@@ -2,7 +2,8 @@
 use gs_lex::{Lexer, Token};
 use gs_model::{Fault, Refusal};
 use gs_ntwrite::line;
-use gs_term::{Part, Pattern, Triple};
+use gs_term::{Part, Pattern};
+use gs_triple_lists::TripleList;
 use gs_triple_parser::{Scope, TripleParser, Turn};
 use gs_triple_values::{Allowed, Language, Patterns, Terms, symbol_of_token};
 use std::alloc::{AllocError, Global};
@@ -28,7 +29,7 @@ fn tokens_of(alloc: Global, text: &str) -> Result<Vec<Token>, Refusal> {
 fn step_all<L: Language>(
     parser: &mut TripleParser<L>,
     tokens: &[Token],
-    triples: &mut Vec<L::Triple>,
+    triples: &mut L::List,
 ) -> Result<bool, AllocError> {
     let mut is_first = true;
     for token in tokens {
@@ -50,7 +51,7 @@ fn read_block<L: Language>(
     scope: Scope,
     allowed: Allowed,
     tokens: &[Token],
-    triples: &mut Vec<L::Triple>,
+    triples: &mut L::List,
 ) -> Result<(Scope, Option<Fault>), AllocError> {
     let mut parser = TripleParser::<L>::within(scope, allowed);
     let has_ended = step_all(&mut parser, tokens, triples);
@@ -72,7 +73,7 @@ fn read<L: Language>(
     scope: Scope,
     allowed: Allowed,
     text: &str,
-    triples: &mut Vec<L::Triple>,
+    triples: &mut L::List,
 ) -> Result<(Scope, Option<Fault>), Refusal> {
     match tokens_of(alloc, text) {
         Ok(tokens) => {
@@ -97,7 +98,7 @@ fn read_alone<L: Language>(
     alloc: Global,
     allowed: Allowed,
     text: &str,
-    triples: &mut Vec<L::Triple>,
+    triples: &mut L::List,
 ) -> Result<Option<Fault>, Refusal> {
     let (after, fault) = read::<L>(alloc, scope(alloc)?, allowed, text, triples)?;
     drop(after);
@@ -117,7 +118,7 @@ fn faults_of(
     scope: Scope,
     first: &str,
     second: &str,
-    triples: &mut Vec<Triple>,
+    triples: &mut TripleList,
 ) -> Result<[Option<Fault>; 2], Refusal> {
     let allowed = Allowed {
         nodes: true,
@@ -130,17 +131,18 @@ fn faults_of(
 }
 
 /// Adds the lines of triples.
-fn push_lines(triples: &[Triple], lines: &mut Vec<u8>) -> Result<(), Refusal> {
-    for triple in triples {
+fn push_lines(alloc: Global, triples: &TripleList, lines: &mut Vec<u8>) -> Result<(), Refusal> {
+    let triples = triples.to_vec(alloc)?;
+    for triple in &triples {
         line(triple, lines)?;
     }
     Ok(())
 }
 
 /// Whether triples have these lines.
-fn have_lines(alloc: Global, triples: &[Triple], wanted: &str) -> Result<bool, Refusal> {
+fn have_lines(alloc: Global, triples: &TripleList, wanted: &str) -> Result<bool, Refusal> {
     let mut lines = Vec::new(alloc);
-    push_lines(triples, &mut lines)?;
+    push_lines(alloc, triples, &mut lines)?;
     Ok(lines.as_slice() == wanted.as_bytes())
 }
 
@@ -153,7 +155,7 @@ _:b7_2 <http://e/v#p> _:b7_4 .
 ";
 
 /// Whether a prefix is set, and the faults of two blocks with it.
-fn go_on(alloc: Global, triples: &mut Vec<Triple>) -> Result<(bool, [Option<Fault>; 2]), Refusal> {
+fn go_on(alloc: Global, triples: &mut TripleList) -> Result<(bool, [Option<Fault>; 2]), Refusal> {
     let mut scope = scope(alloc)?;
     let is_set = sets_prefix(&mut scope);
     let first = "( 1 ) . _:x v:p [] .";
@@ -163,9 +165,9 @@ fn go_on(alloc: Global, triples: &mut Vec<Triple>) -> Result<(bool, [Option<Faul
 
 #[test]
 fn prefixes_and_numbers_go_on_in_the_next_block(rt: HostRuntime) -> Result<(), Fail> {
-    let mut triples = Vec::new(rt.alloc());
+    let mut triples = TripleList::new(rt.alloc());
     let read = go_on(rt.alloc(), &mut triples);
-    let are_same = have_lines(rt.alloc(), triples.as_slice(), TRIPLES);
+    let are_same = have_lines(rt.alloc(), &triples, TRIPLES);
     drop(triples);
     assert_eq!(rt; read?, (true, [None, None]));
     assert!(rt; are_same?);
@@ -191,7 +193,7 @@ fn is_refused(alloc: Global, nodes: bool, text: &str) -> Result<bool, Refusal> {
         nodes,
         lone_lists: false,
     };
-    let mut triples = Vec::new(alloc);
+    let mut triples = TripleList::new(alloc);
     let fault = read_alone::<Terms>(alloc, allowed, text, &mut triples);
     let are_none = triples.is_empty();
     drop(triples);

@@ -10,3 +10,7 @@ most_after n = min (16_777_216 + min (n * 64) (2 ^ 64 - 1)) (2 ^ 64 - 1)
 abbrev pub CountsBytes : {E : Type 0} → Result (Unit {0}) E → Budget → Budget → ℕ → Type 0
 CountsBytes (Ok u) old new n = (new ≡ record old { used = old.used + n }) × (old.used + n ≤ old.most)
 CountsBytes (Err e) old new n = (new ≡ old) × (old.most < old.used + n)
+
+-- of so many counted bytes so many are kept, at most all
+abbrev pub traded : Budget → ℕ → ℕ → Budget
+traded b counted kept = record b { used = b.used - (counted - kept) }

@@ -1,6 +1,6 @@
 //! How much the texts of a request may take.
 ghost use Rattle.std.specs.Prelude.{◌≡◌, ◌+◌, ◌≤◌, ◌<◌, IfSome, IfNone};
-ghost use Rattle.gs_token_terms.specs.Budgets.{most_after, CountsBytes};
+ghost use Rattle.gs_token_terms.specs.Budgets.{most_after, CountsBytes, traded};
 
 use std::alloc::AllocError;
 
@@ -10,8 +10,9 @@ const FIRST_BYTES: u64 = 16_777_216;
 /// And for each byte that was read.
 const BYTES_FOR_ONE: u64 = 64;
 
-/// How many bytes the texts have that a request was read into, each copy counted, and how many they
-/// may have. A prefix, or a subject with many objects, makes long texts of few bytes.
+/// How many bytes the texts have that a request was read into, and how many they may have. A prefix, or a
+/// subject with many objects, makes long texts of few bytes. Each copy counts, until it is traded for what
+/// a list keeps of it.
 #[derive(Clone, Copy)]
 pub struct Budget {
     used: u64,
@@ -60,5 +61,15 @@ impl Budget {
                 Ok(())
             }
         }
+    }
+
+    /// Texts that were counted with so many bytes have joined a list, which takes so many for them. What it
+    /// takes less counts no longer.
+    #[inline]
+    pub fn trade(&mut self, counted: usize, kept: usize)
+        ensures { self.new ≡ traded self.old counted kept }
+    {
+        let gone = counted.saturating_sub(kept);
+        self.used = self.used.saturating_sub(gone as u64);
     }
 }

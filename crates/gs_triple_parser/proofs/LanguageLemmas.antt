@@ -13,7 +13,7 @@ use Rattle.gs_triple_values.specs.Languages.{TypedLanguage, language_of}
 use Rattle.gs_triple_values.specs.Contexts.{ChangesContext}
 use Rattle.gs_triple_parser.specs.Frames.{stack_of}
 use Rattle.gs_triple_values.specs.Views.{context_in, context_of}
-use Rattle.gs_triple_parser.specs.Views.{scope_context, scope_numbers, context_now, state_at, triples_state}
+use Rattle.gs_triple_parser.specs.Views.{scope_context, scope_numbers, context_now, pending_triples, state_at, triples_state}
 use Rattle.gs_triple_parser.specs.Machine.{Declares}
 use Rattle.gs_token_terms.specs.declared.contexts.Context.{Context as Known}
 use Rattle.gs_triple_parser.specs.declared.scopes.Scope.{Scope}
@@ -36,12 +36,12 @@ module _ {X T V W : Type 0} (l : Language X T) where
   ChangesContext-in_language (Err e) old new o h = record { changed = tt; kept = tt }
   ChangesContext-in_language (Ok b) old new o h = record { changed = answered b new o h.changed; kept = λ f. ap (λ (e : Context V W). in_language l e) (h.kept f) }
 
-module _ {L S V X T : Type 0} (l : TypedLanguage S V X T) (p : TripleParser L S V X T) (s : Scope) where
+module _ {L S V X T K : Type 0} (l : TypedLanguage S V X T K) (p : TripleParser L S V X T K) (s : Scope) where
   -- a parser in another scope has the state that it has there
   moved : (env : Context X T) → context_now l (record p { scope = s }) ≡ env → (n : Numbers) → scope_numbers s ≡ n
-      → triples_state l (record p { scope = s }) ≡ state_at l p.place (string_bytes p.text) env (stack_of l p.stack) p.pending.items n
-  moved env e n m = ap (λ (k : Context X T). state_at l p.place (string_bytes p.text) k (stack_of l p.stack) p.pending.items (scope_numbers s)) e
-      ∙ ap (λ k. state_at l p.place (string_bytes p.text) env (stack_of l p.stack) p.pending.items k) m
+      → triples_state l (record p { scope = s }) ≡ state_at l p.place (string_bytes p.text) env (stack_of l p.stack) (pending_triples l p) n
+  moved env e n m = ap (λ (k : Context X T). state_at l p.place (string_bytes p.text) k (stack_of l p.stack) (pending_triples l p) (scope_numbers s)) e
+      ∙ ap (λ k. state_at l p.place (string_bytes p.text) env (stack_of l p.stack) (pending_triples l p) k) m
 
   -- a change of the scope's context, at the parser
   declared : {E : Type 0} (r : Result Bool E) (o : Option (Context Term RdfTriple)) → ChangesContext r (scope_context p.scope) (scope_context s) o → scope_numbers s ≡ scope_numbers p.scope

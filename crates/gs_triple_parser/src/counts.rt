@@ -1,5 +1,5 @@
-//! What a parser has so far: how many triples, and the numbers of labels.
-ghost use Rattle.std.specs.Prelude.{◌≡◌, length, codes, option_and_then};
+//! What a parser has so far: whether its triples are more than so many, and the numbers of labels.
+ghost use Rattle.std.specs.Prelude.{◌≡◌, nat_lt, length, codes, option_and_then};
 ghost use Rattle.gs_escape.specs.Tokens.{rest_after};
 ghost use Rattle.gs_blank.specs.Numbers.{known};
 
@@ -13,14 +13,14 @@ impl<L: Language> TripleParser<L> {
     ghost use Rattle.gs_triples.specs.States.{triples_so_far};
     ghost use Rattle.gs_triple_parser.specs.Views.{triples_state, numbers_now};
 
-    /// How many triples it has.
-    pub fn count(&self) -> usize
-        ensures { result ≡ length (triples_so_far (triples_state L.language self.now)) }
+    /// Whether it has more triples than so many.
+    pub fn has_more_than(&self, most: usize) -> bool
+        ensures { result ≡ nat_lt most (length (triples_so_far (triples_state L.language self.now))) }
     {
         match self.place {
-            Place::Opened | Place::Lost(_) => 0,
-            Place::Heading(Goal::After(_, _, _, _)) => L::count_with_one(&self.pending),
-            _ => self.pending.len(),
+            Place::Opened | Place::Lost(_) => false,
+            Place::Heading(Goal::After(_, _, _, _)) => self.pending.has_as_many_as(most),
+            _ => self.pending.has_more_than(most),
         }
     }
 

@@ -5,8 +5,7 @@ ghost use Rattle.gs_model.specs.declared.faults.Fault.{Fault};
 use crate::parser::TripleParser;
 use crate::places::Place;
 use gs_model::Fault;
-use gs_triple_lists::TripleList;
-use gs_triple_values::{Language, Terms, terms};
+use gs_triple_values::{Language, terms};
 use std::alloc::AllocError;
 
 impl<L: Language> TripleParser<L> {
@@ -16,14 +15,15 @@ impl<L: Language> TripleParser<L> {
 
     /// Hands the triples on, once they are over: they move to the end of the list. After a refusal
     /// the list is as it was.
-    pub fn append_to(&mut self, triples: &mut Vec<L::Triple>) -> Result<(), AllocError>
-        ensures given { OnOk result (triples.new.items ≡ triples.old.items ++ pending_triples self.old) }
-        ensures pending { OnOk result (pending_triples self.new ≡ []) }
+    pub fn append_to(&mut self, triples: &mut L::List) -> Result<(), AllocError>
+        ensures given { OnOk result (L.language.items triples.new
+            ≡ L.language.items triples.old ++ pending_triples L.language self.old) }
+        ensures pending { OnOk result (pending_triples L.language self.new ≡ []) }
         ensures context { context_now L.language self.new ≡ context_now L.language self.old }
         ensures numbers { numbers_now self.new ≡ numbers_now self.old }
-        ensures err { OnErr result (triples.new.items ≡ triples.old.items) }
+        ensures err { OnErr result (L.language.items triples.new ≡ L.language.items triples.old) }
     {
-        triples.append(&mut self.pending)
+        self.pending.append_to(&mut self.scope.budget, triples)
     }
 
     /// The fault after which nothing is read.
@@ -50,22 +50,5 @@ impl<L: Language> TripleParser<L> {
             Place::Lost(fault) => Ok(*fault),
             _ => Ok(Fault::Syntax),
         }
-    }
-}
-
-impl TripleParser<Terms> {
-    ghost use Rattle.gs_triple_values.specs.Typed.{terms};
-    ghost use Rattle.gs_triple_parser.specs.Views.{context_now, numbers_now, pending_triples};
-
-    /// Hands the triples on in the same way, to a list that keeps a term mostly once.
-    pub fn list_in(&mut self, triples: &mut TripleList) -> Result<(), AllocError>
-        ensures given { OnOk result (triples.new.items ≡ triples.old.items ++ pending_triples self.old) }
-        ensures pending { OnOk result (pending_triples self.new ≡ []) }
-        ensures context { context_now terms self.new ≡ context_now terms self.old }
-        ensures numbers { numbers_now self.new ≡ numbers_now self.old }
-        ensures err { OnErr result (triples.new.items ≡ triples.old.items) }
-    {
-        let pending = &mut self.pending;
-        triples.append(pending)
     }
 }

@@ -73,8 +73,9 @@ impl<L: Language> TripleParser<L> {
             (head_of L.language self.old (Goal.Items depth first cell) Symbol.CloseList) }
     {
         let context = &self.scope.context;
+        let budget = &mut self.scope.budget;
         let nil = L::value(rdf_nil(self.alloc)?);
-        put_rest::<L>(self.alloc, context, &mut self.pending, cell, nil)?;
+        put_rest::<L>(self.alloc, context, budget, &mut self.pending, cell, nil)?;
         let node = blank(self.alloc, context.request, first)?;
         self.give_subject(L::subject(node))
     }

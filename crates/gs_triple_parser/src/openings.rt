@@ -7,7 +7,7 @@ use crate::places::Place;
 use crate::scopes::Scope;
 use crate::stacks::Stack;
 use gs_model::Fault;
-use gs_triple_values::{Allowed, Language, Symbol, TermToken, values};
+use gs_triple_values::{Allowed, Language, Pending, Symbol, TermToken, values};
 use std::alloc::AllocError;
 
 impl<L: Language> TripleParser<L> {
@@ -27,7 +27,7 @@ impl<L: Language> TripleParser<L> {
         ensures context { context_now L.language result
             ≡ in_language (language_of L.language allowed) (scope_context scope) }
         ensures numbers { numbers_now result ≡ scope_numbers scope }
-        ensures pending { pending_triples result ≡ [] }
+        ensures pending { pending_triples L.language result ≡ [] }
         ensures state { triples_state L.language result ≡ Lost Syntax }
     {
         let alloc = scope.alloc;
@@ -36,7 +36,7 @@ impl<L: Language> TripleParser<L> {
             scope,
             allowed,
             stack: Stack::new(alloc),
-            pending: Vec::new(alloc),
+            pending: Pending::new(alloc),
             text: String::new(alloc),
             place: Place::Lost(Fault::Syntax),
         }
@@ -75,7 +75,7 @@ impl<L: Language> TripleParser<L> {
         ensures state { triples_state L.language self.new ≡ triples_state L.language self.old }
         ensures context { context_now L.language self.new ≡ context_now L.language self.old }
         ensures numbers { numbers_now self.new ≡ numbers_now self.old }
-        ensures pending { pending_triples self.new ≡ pending_triples self.old }
+        ensures pending { pending_triples L.language self.new ≡ pending_triples L.language self.old }
     {
         self.scope.budget.read_up_to(end);
     }

@@ -8,7 +8,7 @@ use crate::stacks::Stack;
 use gs_model::Fault;
 use gs_term::TermText;
 use gs_triple_values::terms::blank;
-use gs_triple_values::{Allowed, Language, put_first, put_rest};
+use gs_triple_values::{Allowed, Language, Pending, put_first, put_rest};
 use std::alloc::{AllocError, Global};
 
 /// What a symbol does: it is taken, or the triples are over before it.
@@ -27,7 +27,7 @@ pub struct TripleParser<L: Language> {
     pub(crate) allowed: Allowed,
     pub(crate) stack: Stack<L>,
     /// The triples so far, which are handed on once they are over. At `Goal::After` one more waits.
-    pub(crate) pending: Vec<L::Triple>,
+    pub(crate) pending: Pending<L>,
     /// The last string that was an object: the symbol after it decides what it means. Its memory is
     /// used again for the next one, so it is at most twice the longest string that was read.
     pub(crate) text: String,
@@ -63,7 +63,7 @@ impl<L: Language> TripleParser<L> {
         let pending = &mut self.pending;
         put_first::<L>(self.alloc, context, budget, pending, number, value)?;
         let next = L::value(blank(self.alloc, context.request, number)?);
-        put_rest::<L>(self.alloc, context, &mut self.pending, cell, next)?;
+        put_rest::<L>(self.alloc, context, budget, pending, cell, next)?;
         self.place = Place::Heading(Goal::Items(depth, first, number));
         Ok(())
     }

@@ -14,7 +14,7 @@ use Rattle.gs_triple_values.specs.declared.allowed.Allowed.{Allowed}
 use Rattle.gs_token_terms.specs.declared.contexts.Context.{Context}
 use Rattle.gs_token_terms.specs.declared.symbols.TermToken.{TermToken}
 
-module _ {S V X T : Type 0} (l : TypedLanguage S V X T) (a : Allowed) (c : Context) where
+module _ {S V X T K : Type 0} (l : TypedLanguage S V X T K) (a : Allowed) (c : Context) where
   -- an IRI's value, by its term
   iri_is : (w : TermToken) (m : Result Term Fault) → m ≡ iri (context_of c) (token_at w) → value_of (context_in (language_of l a) c) m ≡ iri_value l c a w
   iri_is w m h = ap (value_of (context_in (language_of l a) c)) (h ∙ sym (iri-in_language (language_of l a) (context_of c) (token_at w)))

@@ -5,4 +5,5 @@ pub use Rattle.gs_token_terms.specs.Views
 pub mod Languages
 pub mod Typed
 pub mod Terms
+pub mod Waiting
 pub mod Sizes

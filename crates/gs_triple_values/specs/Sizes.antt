@@ -1,5 +1,5 @@
 -- How many bytes the texts of values and of triples have.
-use Rattle.std.specs.Prelude.{ℕ, ◌+◌, ◌-◌, ◌^◌, min, length}
+use Rattle.std.specs.Prelude.{ℕ, List, ◌+◌, ◌-◌, ◌^◌, min, sum_by, length}
 use Rattle.gs_model.specs.Terms.{Term, text_of}
 use Rattle.gs_model.specs.Triples.{RdfTriple}
 use Rattle.gs_term.specs.declared.patterns.Part.{Part}
@@ -26,3 +26,7 @@ stopped_sum a b = min (a + b) (2 ^ 64 - 1)
 -- those of a pattern's three parts: a name may be as long as its text
 abbrev pub parts_bytes : Pattern → ℕ
 parts_bytes t = stopped_sum (stopped_sum (part_bytes t.subject) (part_bytes t.predicate)) (part_bytes t.object)
+
+-- those of terms, as a sum of the code
+abbrev pub texts_bytes : List Term → ℕ
+texts_bytes ts = min (sum_by term_bytes ts) (2 ^ 64 - 1)

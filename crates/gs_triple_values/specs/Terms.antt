@@ -1,5 +1,5 @@
 -- The terms and the values of the code's tokens, in the code's context.
-use Rattle.std.specs.Prelude.{◌≡◌, ℕ, List, ◌∷◌, [], ◌++◌, Result, IfOk, OnOk}
+use Rattle.std.specs.Prelude.{◌≡◌, ℕ, Result, IfOk}
 use Rattle.std.specs.Result.{result_map_both}
 use Rattle.gs_blank.specs.Numbers.{Numbers}
 use Rattle.gs_triples.specs.Goals.{first_is, rest_is}
@@ -29,12 +29,8 @@ IsNumbered r n x = IfOk r (λ m. with_numbers n m ≡ x)
 abbrev pub StandsNumbered : {S X E : Type 0} → (S → X) → Result (Result S Fault) E → Numbers → Result (X × Numbers) Fault → Type 0
 StandsNumbered f r n x = IfOk r (λ m. with_numbers n (stood f m) ≡ x)
 
--- it adds this triple
-abbrev pub Adds : {T E : Type 0} → Result (Unit {0}) E → List T → List T → T → Type 0
-Adds r old new t = OnOk r (new ≡ old ++ t ∷ [])
-
 -- in a language of the code
-module _ {S V X T : Type 0} (l : TypedLanguage S V X T) where
+module _ {S V X T K : Type 0} (l : TypedLanguage S V X T K) where
   -- the object of a cell
   abbrev pub first_of : Context → ℕ → X → T
   first_of env m o = first_is (context_in l.grammar env) m o

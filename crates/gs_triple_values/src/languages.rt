@@ -1,5 +1,5 @@
 //! What triples are made of.
-ghost use Rattle.std.specs.Prelude.{◌≡◌, ℕ, ◌+◌, length, true, IfOk, option_map};
+ghost use Rattle.std.specs.Prelude.{◌≡◌, ◌++◌, ℕ, [], length, true, IfOk, OnOk, OnErr, option_map};
 ghost use Rattle.gs_model.specs.Triples.{is_iri, is_subject};
 
 use gs_term::TermText;
@@ -18,8 +18,11 @@ pub trait Language {
 
     type Triple: Drop;
 
-    // The language of the grammar, and what subjects and verbs stand for in it.
-    ghost language: { TypedLanguage Self.Subject Self.Verb Self.Value Self.Triple };
+    /// Triples in their order, as an operation or a document keeps them.
+    type List: Drop;
+
+    // The language of the grammar, and what subjects, verbs and lists stand for in it.
+    ghost language: { TypedLanguage Self.Subject Self.Verb Self.Value Self.Triple Self.List };
 
     // How many bytes the text of an object has, and those of a triple.
     ghost value_size: { Self.Value → ℕ };
@@ -82,8 +85,30 @@ pub trait Language {
     fn triple_bytes(triple: &Self::Triple) -> usize
         ensures { result ≡ triple_size triple.now };
 
-    /// How many triples there are, with one more. A triple takes memory, so that there are never too
-    /// many to count.
-    fn count_with_one(triples: &Vec<Self::Triple>) -> usize
-        ensures { result ≡ length triples.now.items + 1 };
+    /// A list without triples. Takes no memory.
+    fn no_triples(alloc: Global) -> Self::List
+        ensures { language.items result ≡ [] };
+
+    /// How many triples a list has.
+    fn count(list: &Self::List) -> usize
+        ensures { result ≡ length (language.items list.now) };
+
+    /// Leaves no triple in a list.
+    fn clear(list: &mut Self::List)
+        ensures { language.items list.new ≡ [] };
+
+    /// Moves triples to the end of a list, and says how many bytes its texts take more, or a greater
+    /// number where it knows none of them. Where memory is refused, none is added.
+    fn add_all(triples: &mut Vec<Self::Triple>, list: &mut Self::List) -> Result<usize, AllocError>
+        ensures added { OnOk result (language.items list.new
+            ≡ language.items list.old ++ triples.old.items) }
+        ensures taken { OnOk result (triples.new.items ≡ []) }
+        ensures kept { OnErr result (language.items list.new ≡ language.items list.old) };
+
+    /// Moves the triples of a list to the end of another one, in the same way.
+    fn append(from: &mut Self::List, list: &mut Self::List) -> Result<usize, AllocError>
+        ensures added { OnOk result (language.items list.new
+            ≡ language.items list.old ++ language.items from.old) }
+        ensures taken { OnOk result (language.items from.new ≡ []) }
+        ensures kept { OnErr result (language.items list.new ≡ language.items list.old) };
 }

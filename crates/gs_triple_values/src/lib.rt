@@ -17,5 +17,5 @@ pub use gs_token_terms::{
 pub use kinds::{Subject, Verb};
 pub use languages::Language;
 pub use patterns::Patterns;
-pub use pending::{put, put_end, put_first, put_last, put_rest};
+pub use pending::{Pending, put, put_end, put_first, put_last, put_rest};
 pub use triple_terms::Terms;

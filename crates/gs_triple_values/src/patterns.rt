@@ -52,6 +52,8 @@ impl Language for Patterns {
 
     type Triple = Pattern;
 
+    type List = Vec<Pattern>;
+
     ghost language = { patterns };
 
     ghost value_size = { part_bytes };
@@ -129,7 +131,26 @@ impl Language for Patterns {
             .saturating_add(bytes_of(&triple.object))
     }
 
-    fn count_with_one(triples: &Vec<Pattern>) -> usize {
-        triples.len() + 1
+    fn no_triples(alloc: Global) -> Vec<Pattern> {
+        Vec::new(alloc)
+    }
+
+    fn count(list: &Vec<Pattern>) -> usize {
+        list.len()
+    }
+
+    fn clear(list: &mut Vec<Pattern>) {
+        list.clear();
+    }
+
+    /// A list of patterns knows no text, so all that was counted stays.
+    fn add_all(triples: &mut Vec<Pattern>, list: &mut Vec<Pattern>) -> Result<usize, AllocError> {
+        list.append(triples)?;
+        Ok(usize::MAX)
+    }
+
+    fn append(from: &mut Vec<Pattern>, list: &mut Vec<Pattern>) -> Result<usize, AllocError> {
+        list.append(from)?;
+        Ok(usize::MAX)
     }
 }

@@ -1,9 +1,11 @@
 //! The language of terms.
 ghost use Rattle.std.specs.Prelude.{◌≡◌, IfOk};
+ghost use Rattle.gs_triple_values.specs.Sizes.{texts_bytes};
 
 use crate::kinds::{Subject, Verb};
 use crate::languages::Language;
 use gs_term::{TermText, Triple};
+use gs_triple_lists::TripleList;
 use std::alloc::{AllocError, Global};
 
 /// The terms and the triples of RDF, without variables: Turtle, and the data of updates.
@@ -17,6 +19,30 @@ fn copied(alloc: Global, term: &TermText) -> Result<TermText, AllocError>
     TermText::of_canonical(alloc, term.as_bytes())
 }
 
+/// How many bytes the texts of terms have.
+fn bytes_of(terms: &[TermText]) -> usize
+    ensures { result ≡ texts_bytes terms.now }
+{
+    let mut bytes = 0usize;
+    for term in terms {
+        bytes = bytes.saturating_add(term.as_bytes().len());
+    }
+    bytes
+}
+
+/// How many texts a list has.
+fn count_texts(list: &TripleList) -> usize {
+    list.parts().0.len()
+}
+
+/// How many bytes the texts have that a list has beside its first so many.
+fn new_bytes(list: &TripleList, known: usize) -> usize {
+    match list.parts().0.get(known..) {
+        None => 0,
+        Some(new) => bytes_of(new),
+    }
+}
+
 impl Language for Terms {
     ghost use Rattle.gs_triple_values.specs.Typed.{terms};
     ghost use Rattle.gs_triple_values.specs.Sizes.{term_bytes, terms_bytes};
@@ -28,6 +54,8 @@ impl Language for Terms {
     type Value = TermText;
 
     type Triple = Triple;
+
+    type List = TripleList;
 
     ghost language = { terms };
 
@@ -94,7 +122,27 @@ impl Language for Terms {
             + triple.object().as_bytes().len()
     }
 
-    fn count_with_one(triples: &Vec<Triple>) -> usize {
-        triples.len() + 1
+    fn no_triples(alloc: Global) -> TripleList {
+        TripleList::new(alloc)
+    }
+
+    fn count(list: &TripleList) -> usize {
+        list.len()
+    }
+
+    fn clear(list: &mut TripleList) {
+        list.clear();
+    }
+
+    fn add_all(triples: &mut Vec<Triple>, list: &mut TripleList) -> Result<usize, AllocError> {
+        let known = count_texts(list);
+        list.append(triples)?;
+        Ok(new_bytes(list, known))
+    }
+
+    fn append(from: &mut TripleList, list: &mut TripleList) -> Result<usize, AllocError> {
+        let known = count_texts(list);
+        list.take_from(from)?;
+        Ok(new_bytes(list, known))
     }
 }

@@ -6,10 +6,13 @@ use Rattle.std.proofs.Math.Dec.{eqb-suc-zero}
 use Rattle.std.proofs.lemmas.List.{map-append}
 use Rattle.gs_event.specs.declared.updates.Op.{Op}
 use Rattle.gs_blank.specs.Numbers.{Numbers}
+use Rattle.std.specs.declared.vec.Vec.{Vec}
+use Rattle.std.specs.declared.alloc.Global.{Global}
 use Rattle.gs_model.specs.Terms.{Term}
 use Rattle.gs_model.specs.Triples.{RdfTriple}
 use Rattle.gs_term.specs.declared.patterns.Part.{Part}
 use Rattle.gs_term.specs.declared.patterns.Pattern.{Pattern}
+use Rattle.gs_triple_lists.specs.Lists.{Listed}
 use Rattle.gs_triple_values.specs.declared.kinds.Subject.{Subject}
 use Rattle.gs_triple_values.specs.declared.kinds.Verb.{Verb}
 use Rattle.gs_triple_values.specs.declared.triple_terms.Terms.{Terms}
@@ -72,8 +75,8 @@ pub closes : (p : UpdateParser) (z : Place) (q : UpdateParser) (o : Place) (e : 
 closes p z q o e t h is m = moves_from p z q t (closed_at p.place e) (h ∙ ap (λ (x : Place). closed_at x e) is) m
 
 -- in no block nothing ends
-pub closes_nothing : (o : Place) (e : ℕ) → ((b : CodeBlock Terms Subject Verb Term RdfTriple) → o ≢ place.Inserting b)
-    → ((b : CodeBlock Terms Subject Verb Term RdfTriple) → o ≢ place.Deleting b) → ((b : CodeBlock Patterns Part Part Part Pattern) → o ≢ place.Seeking b) → quiet syntax_fault ≡ closed_at o e
+pub closes_nothing : (o : Place) (e : ℕ) → ((b : CodeBlock Terms Subject Verb Term RdfTriple Listed) → o ≢ place.Inserting b)
+    → ((b : CodeBlock Terms Subject Verb Term RdfTriple Listed) → o ≢ place.Deleting b) → ((b : CodeBlock Patterns Part Part Part Pattern (Vec Pattern Global)) → o ≢ place.Seeking b) → quiet syntax_fault ≡ closed_at o e
 closes_nothing (place.Inserting b) e i d s = absurd (i b refl)
 closes_nothing (place.Deleting b) e i d s = absurd (d b refl)
 closes_nothing (place.Seeking b) e i d s = absurd (s b refl)

@@ -23,6 +23,21 @@ pub struct UpdateParser {
     pub(crate) last: u64,
 }
 
+/// A list of so few triples has little room to give back.
+const SHORT: usize = 1_024;
+
+/// The triples of an operation, put in order for the store, with little more room than they and their terms
+/// take, since the history keeps them as they are.
+fn settled(mut triples: TripleList) -> Result<TripleList, AllocError>
+    ensures { IfOk result (λ l. l ≡ triples) }
+{
+    triples.put_in_order()?;
+    if triples.len() > SHORT {
+        triples.shrink_to_fit();
+    }
+    Ok(triples)
+}
+
 impl UpdateParser {
     ghost use Rattle.gs_blank.specs.Numbers.{no_numbers};
     ghost use Rattle.gs_triple_values.specs.Views.{symbol_at};
@@ -95,12 +110,12 @@ impl UpdateParser {
         match mem::replace(&mut self.place, lost) {
             Place::Inserting(block) => {
                 let (scope, triples) = block.into_parts();
-                let triples = TripleList::of(self.alloc, triples)?;
+                let triples = settled(triples)?;
                 self.conclude(scope, Op::Insert(triples), end)
             }
             Place::Deleting(block) => {
                 let (scope, triples) = block.into_parts();
-                let triples = TripleList::of(self.alloc, triples)?;
+                let triples = settled(triples)?;
                 self.conclude(scope, Op::DeleteData(triples), end)
             }
             Place::Seeking(block) => {

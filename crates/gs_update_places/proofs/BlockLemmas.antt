@@ -46,13 +46,13 @@ given_same : (o : Option ℕ) (m n : Numbers) → ((k : ℕ) → k ≤ m.1 → K
 given_same None m n f h = tt
 given_same (Some k) m n f h = (f k h).0
 
-module _ {L S V X T : Type 0} (l : TypedLanguage S V X T) where
+module _ {L S V X T K : Type 0} (l : TypedLanguage S V X T K) where
   -- what stays of a parser, by its context and numbers
-  abbrev ParserStays : TripleParser L S V X T → TripleParser L S V X T → ℕ → Type 0
+  abbrev ParserStays : TripleParser L S V X T K → TripleParser L S V X T K → ℕ → Type 0
   ParserStays p q k = Stays k (context_now l p) (numbers_now p) (context_now l q) (numbers_now q)
 
   -- a place keeps what its parser keeps
-  kept_at : (k : ℕ) (c : Context X T) (m : Numbers) (q : TripleParser L S V X T) (h : code.Place L S V X T) → Stays k c m (context_now l q) (numbers_now q)
+  kept_at : (k : ℕ) (c : Context X T) (m : Numbers) (q : TripleParser L S V X T K) (h : code.Place L S V X T K) → Stays k c m (context_now l q) (numbers_now q)
       → Kept (Stays k c m) (stays_one k c m) (stays_label k c m) (triples_state_at l q h)
   kept_at k c m q place.Opened g = g
   kept_at k c m q (place.Closed s) g = g
@@ -61,7 +61,7 @@ module _ {L S V X T : Type 0} (l : TypedLanguage S V X T) where
   kept_at k c m q (place.Typing s) g = g
   kept_at k c m q (place.Lost e) g = tt
 
-  now_kept_at : (k : ℕ) (c : Context X T) (m : Numbers) (q : TripleParser L S V X T) (h : code.Place L S V X T) → NotLost (triples_state_at l q h)
+  now_kept_at : (k : ℕ) (c : Context X T) (m : Numbers) (q : TripleParser L S V X T K) (h : code.Place L S V X T K) → NotLost (triples_state_at l q h)
       → Kept (Stays k c m) (stays_one k c m) (stays_label k c m) (triples_state_at l q h) → Stays k c m (context_now l q) (numbers_now q)
   now_kept_at k c m q place.Opened n g = g
   now_kept_at k c m q (place.Closed s) n g = g
@@ -71,7 +71,7 @@ module _ {L S V X T : Type 0} (l : TypedLanguage S V X T) where
   now_kept_at k c m q (place.Lost e) n g = elim n [ ]
 
   -- a symbol that triples took
-  pub taken_keeps : (p q : TripleParser L S V X T) (t : Symbol) → Goes (triples_state l q) ≡ triples_machine.step (triples_state l p) t → NotLost (triples_state l q)
+  pub taken_keeps : (p q : TripleParser L S V X T K) (t : Symbol) → Goes (triples_state l q) ≡ triples_machine.step (triples_state l p) t → NotLost (triples_state l q)
       → (k : ℕ) → k ≤ (numbers_now p).1 → ParserStays p q k
   taken_keeps p q t e n k h =
       let c = context_now l p in
@@ -80,7 +80,7 @@ module _ {L S V X T : Type 0} (l : TypedLanguage S V X T) where
       (subst (KeptBy (Stays k c m) (stays_one k c m) (stays_label k c m)) (sym e) (step_stays k c m (triples_state l p) t (kept_at k c m p p.place (refl, keeps_all k m h))))
 
   -- one that ends them
-  pub over_keeps : (p q : TripleParser L S V X T) (t : Symbol) (P : List T) → Ends (context_now l q) P (numbers_now q) ≡ triples_machine.step (triples_state l p) t
+  pub over_keeps : (p q : TripleParser L S V X T K) (t : Symbol) (P : List T) → Ends (context_now l q) P (numbers_now q) ≡ triples_machine.step (triples_state l p) t
       → (k : ℕ) → k ≤ (numbers_now p).1 → ParserStays p q k
   over_keeps p q t P e k h =
       let c = context_now l p in
@@ -88,7 +88,7 @@ module _ {L S V X T : Type 0} (l : TypedLanguage S V X T) where
       subst (KeptBy (Stays k c m) (stays_one k c m) (stays_label k c m)) (sym e) (step_stays k c m (triples_state l p) t (kept_at k c m p p.place (refl, keeps_all k m h)))
 
   -- and the first one
-  pub opened_keeps : (p q : TripleParser L S V X T) (t : Symbol) → triples_state l q ≡ opening (context_now l p) (numbers_now p) t → NotLost (triples_state l q)
+  pub opened_keeps : (p q : TripleParser L S V X T K) (t : Symbol) → triples_state l q ≡ opening (context_now l p) (numbers_now p) t → NotLost (triples_state l q)
       → (k : ℕ) → k ≤ (numbers_now p).1 → ParserStays p q k
   opened_keeps p q t e n k h =
       let c = context_now l p in
@@ -97,7 +97,7 @@ module _ {L S V X T : Type 0} (l : TypedLanguage S V X T) where
       (subst (Kept (Stays k c m) (stays_one k c m) (stays_label k c m)) (sym e) (opening_stays k c m m t (keeps_all k m h)))
 
   -- so context and rules of a block stay
-  pub block_stays : (a b : CodeBlock L S V X T) → b.since ≡ a.since → b.most ≡ a.most → HasGiven a.since (numbers_now a.parser)
+  pub block_stays : (a b : CodeBlock L S V X T K) → b.since ≡ a.since → b.most ≡ a.most → HasGiven a.since (numbers_now a.parser)
       → ((k : ℕ) → k ≤ (numbers_now a.parser).1 → ParserStays a.parser b.parser k) → steps.Stays l a b
   block_stays a b s m g f =
       let C : context_now l b.parser ≡ context_now l a.parser = (f 0 (omega arith)).0 in
@@ -111,17 +111,17 @@ module _ {L S V X T : Type 0} (l : TypedLanguage S V X T) where
       }
 
   -- they stay whatever the turn is
-  pub stays_unless : (a b : CodeBlock L S V X T) (u : CodeTurn) → steps.Stays l a b → steps.StaysUnless l a b u
+  pub stays_unless : (a b : CodeBlock L S V X T K) (u : CodeTurn) → steps.Stays l a b → steps.StaysUnless l a b u
   stays_unless a b turn.Takes h = h
   stays_unless a b (turn.Shuts e) h = h
   stays_unless a b (turn.Stops r) h = tt
 
   -- nothing changes
-  pub nothing_stays : (a : CodeBlock L S V X T) (u : CodeTurn) → HasGiven a.since (numbers_now a.parser) → steps.StaysUnless l a a u
+  pub nothing_stays : (a : CodeBlock L S V X T K) (u : CodeTurn) → HasGiven a.since (numbers_now a.parser) → steps.StaysUnless l a a u
   nothing_stays a u g = stays_unless a a u (record { context = refl; rules = λ made. refl; given = g })
 
   -- after a symbol that triples took, unless they have a fault
-  pub entered_stays : (a b c : CodeBlock L S V X T) (u : CodeTurn) → steps.GoesOn l b u → b.since ≡ a.since → b.most ≡ a.most → c.parser ≡ b.parser → steps.KeepsBounds b c
+  pub entered_stays : (a b c : CodeBlock L S V X T K) (u : CodeTurn) → steps.GoesOn l b u → b.since ≡ a.since → b.most ≡ a.most → c.parser ≡ b.parser → steps.KeepsBounds b c
       → HasGiven a.since (numbers_now a.parser) → (NotLost (triples_state l b.parser) → (k : ℕ) → k ≤ (numbers_now a.parser).1 → ParserStays a.parser b.parser k) → steps.StaysUnless l a c u
   entered_stays a b c turn.Takes g s m p k h f =
       block_stays a c (k.since ∙ s) (k.most ∙ m) h (subst (λ z. (k : ℕ) → k ≤ (numbers_now a.parser).1 → ParserStays a.parser z k) (sym p) (f (goes_on (triples_state l b.parser) g)))
@@ -129,7 +129,7 @@ module _ {L S V X T : Type 0} (l : TypedLanguage S V X T) where
   entered_stays a b c (turn.Stops r) g s m p k h f = tt
 
   -- after one that ends them
-  pub followed_stays : (a b c : CodeBlock L S V X T) (u : CodeTurn) → b.since ≡ a.since → b.most ≡ a.most → steps.KeepsBounds b c → context_now l c.parser ≡ context_now l b.parser
+  pub followed_stays : (a b c : CodeBlock L S V X T K) (u : CodeTurn) → b.since ≡ a.since → b.most ≡ a.most → steps.KeepsBounds b c → context_now l c.parser ≡ context_now l b.parser
       → numbers_now c.parser ≡ numbers_now b.parser → HasGiven a.since (numbers_now a.parser) → ((k : ℕ) → k ≤ (numbers_now a.parser).1 → ParserStays a.parser b.parser k) → steps.StaysUnless l a c u
   followed_stays a b c u s m k e n h f =
       let parser_stays : (k : ℕ) → k ≤ (numbers_now a.parser).1 → ParserStays a.parser c.parser k =

@@ -2,12 +2,15 @@
 use Rattle.std.proofs.Common.{◌≡◌, ℕ, refl, sym, ap, ◌∙◌, subst}
 use Rattle.std.specs.Prelude.{Option, Some, None}
 use Rattle.gs_blank.specs.Numbers.{Numbers}
+use Rattle.std.specs.declared.vec.Vec.{Vec}
+use Rattle.std.specs.declared.alloc.Global.{Global}
 use Rattle.gs_model.specs.Terms.{Term}
 use Rattle.gs_model.specs.Triples.{RdfTriple}
 use Rattle.gs_term.specs.declared.patterns.Part.{Part}
 use Rattle.gs_term.specs.declared.patterns.Pattern.{Pattern}
 use Rattle.gs_triples.specs.Languages.{of_terms}
 use Rattle.gs_triples.specs.Meanings.{in_language}
+use Rattle.gs_triple_lists.specs.Lists.{Listed}
 use Rattle.gs_triple_values.specs.Languages.{TypedLanguage}
 use Rattle.gs_triple_values.specs.Typed.{terms, patterns}
 use Rattle.gs_triple_values.specs.declared.kinds.Subject.{Subject}
@@ -42,13 +45,13 @@ concluded_blocked : {X T : Type 0} (o : Option UpdateOperation) (inside : BlockS
 concluded_blocked None inside env n e = refl
 concluded_blocked (Some o) inside env n e = refl
 
-module _ {L S V X T : Type 0} (l : TypedLanguage S V X T) (inside : Block X T → Scope → BlockState X T → UpdateState) (made : Making T) where
+module _ {L S V X T K : Type 0} (l : TypedLanguage S V X T K) (inside : Block X T → Scope → BlockState X T → UpdateState) (made : Making T) where
   -- the machine's transition in a block
-  abbrev pub turn_in : CodeBlock L S V X T → Symbol → UpdateStep
+  abbrev pub turn_in : CodeBlock L S V X T K → Symbol → UpdateStep
   turn_in a t = blocked (inside (rules_of l made a) (scope_of l a)) (scope_of l a) (block_turn l a t made)
 
   -- the block goes on
-  pub takes_in : (a b : CodeBlock L S V X T) (t : Symbol) → Turned l b turn.Takes (block_turn l a t) → Stays l a b
+  pub takes_in : (a b : CodeBlock L S V X T K) (t : Symbol) → Turned l b turn.Takes (block_turn l a t) → Stays l a b
       → quiet (inside (rules_of l made b) (scope_of l b) (block_state l b)) ≡ turn_in a t
   takes_in a b t h s =
       let same : quiet (inside (rules_of l made b) (scope_of l b) (block_state l b)) ≡ quiet (inside (rules_of l made a) (scope_of l a) (block_state l b)) =
@@ -56,19 +59,19 @@ module _ {L S V X T : Type 0} (l : TypedLanguage S V X T) (inside : Block X T �
       same ∙ ap (blocked (inside (rules_of l made a) (scope_of l a)) (scope_of l a)) (h made)
 
   -- it ends
-  pub shuts_in : (a b : CodeBlock L S V X T) (t : Symbol) (e : ℕ) → Turned l b (turn.Shuts e) (block_turn l a t) → Stays l a b
-      → concluded (made b.triples.items) (scope_of l b) (numbers_now b.parser) e ≡ turn_in a t
+  pub shuts_in : (a b : CodeBlock L S V X T K) (t : Symbol) (e : ℕ) → Turned l b (turn.Shuts e) (block_turn l a t) → Stays l a b
+      → concluded (made (l.items b.triples)) (scope_of l b) (numbers_now b.parser) e ≡ turn_in a t
   shuts_in a b t e h s =
-      ap (λ c. concluded (made b.triples.items) (in_language of_terms c) (numbers_now b.parser) e) s.context
-      ∙ concluded_blocked (made b.triples.items) (inside (rules_of l made a) (scope_of l a)) (scope_of l a) (numbers_now b.parser) e
+      ap (λ c. concluded (made (l.items b.triples)) (in_language of_terms c) (numbers_now b.parser) e) s.context
+      ∙ concluded_blocked (made (l.items b.triples)) (inside (rules_of l made a) (scope_of l a)) (scope_of l a) (numbers_now b.parser) e
       ∙ ap (blocked (inside (rules_of l made a) (scope_of l a)) (scope_of l a)) (h made)
 
   -- a departure
-  pub stops_in : (a b : CodeBlock L S V X T) (t : Symbol) (r : CodeRejection) → Turned l b (turn.Stops r) (block_turn l a t) → quiet (Rejected (rejection_at r)) ≡ turn_in a t
+  pub stops_in : (a b : CodeBlock L S V X T K) (t : Symbol) (r : CodeRejection) → Turned l b (turn.Stops r) (block_turn l a t) → quiet (Rejected (rejection_at r)) ≡ turn_in a t
   stops_in a b t r h = ap (blocked (inside (rules_of l made a) (scope_of l a)) (scope_of l a)) (h made)
 
 -- the block of INSERT DATA
-pub inserting_follows : (a b : CodeBlock Terms Subject Verb Term RdfTriple) (t : Symbol) (u : CodeTurn) → Turned terms b u (block_turn terms a t) → StaysUnless terms a b u
+pub inserting_follows : (a b : CodeBlock Terms Subject Verb Term RdfTriple Listed) (t : Symbol) (u : CodeTurn) → Turned terms b u (block_turn terms a t) → StaysUnless terms a b u
     → Follows (transition_at_place (place.Inserting a) t) u (place.Inserting b)
 unfolding step
 inserting_follows a b t turn.Takes h s = record { state = takes_in terms InData (λ P. Some (Inserts P)) a b t h s; sound = s.given }
@@ -76,7 +79,7 @@ inserting_follows a b t (turn.Shuts e) h s = shuts_in terms InData (λ P. Some (
 inserting_follows a b t (turn.Stops r) h s = stops_in terms InData (λ P. Some (Inserts P)) a b t r h
 
 -- that of DELETE DATA
-pub deleting_follows : (a b : CodeBlock Terms Subject Verb Term RdfTriple) (t : Symbol) (u : CodeTurn) → Turned terms b u (block_turn terms a t) → StaysUnless terms a b u
+pub deleting_follows : (a b : CodeBlock Terms Subject Verb Term RdfTriple Listed) (t : Symbol) (u : CodeTurn) → Turned terms b u (block_turn terms a t) → StaysUnless terms a b u
     → Follows (transition_at_place (place.Deleting a) t) u (place.Deleting b)
 unfolding step
 deleting_follows a b t turn.Takes h s = record { state = takes_in terms InData (λ P. Some (DeletesData P)) a b t h s; sound = s.given }
@@ -84,7 +87,7 @@ deleting_follows a b t (turn.Shuts e) h s = shuts_in terms InData (λ P. Some (D
 deleting_follows a b t (turn.Stops r) h s = stops_in terms InData (λ P. Some (DeletesData P)) a b t r h
 
 -- that of DELETE WHERE
-pub seeking_follows : (a b : CodeBlock Patterns Part Part Part Pattern) (t : Symbol) (u : CodeTurn) → Turned patterns b u (block_turn patterns a t) → StaysUnless patterns a b u
+pub seeking_follows : (a b : CodeBlock Patterns Part Part Part Pattern (Vec Pattern Global)) (t : Symbol) (u : CodeTurn) → Turned patterns b u (block_turn patterns a t) → StaysUnless patterns a b u
     → Follows (transition_at_place (place.Seeking a) t) u (place.Seeking b)
 unfolding step
 seeking_follows a b t turn.Takes h s = record { state = takes_in patterns InWhere some_patterns a b t h s; sound = s.given }

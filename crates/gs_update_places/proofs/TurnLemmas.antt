@@ -92,65 +92,65 @@ module _ {Value Triple : Type 0} where
   unfinished b P (Lost e) h = absurd (h e refl)
   unfinished b P s h = refl
 
-module _ {L S V X T : Type 0} (l : TypedLanguage S V X T) where
+module _ {L S V X T K : Type 0} (l : TypedLanguage S V X T K) where
   -- the state of a block, by where it stands
-  state_within : (a : CodeBlock L S V X T) (w : Bool) → a.within ≡ w
-      → block_state l a ≡ cond w (blocks.WithinTriples a.triples.items (triples_state l a.parser)) (blocks.AtTriples (context_now l a.parser) a.triples.items (numbers_now a.parser))
+  state_within : (a : CodeBlock L S V X T K) (w : Bool) → a.within ≡ w
+      → block_state l a ≡ cond w (blocks.WithinTriples (l.items a.triples) (triples_state l a.parser)) (blocks.AtTriples (context_now l a.parser) (l.items a.triples) (numbers_now a.parser))
   state_within a w e =
-      ap (λ z. cond z (blocks.WithinTriples a.triples.items (triples_state l a.parser)) (blocks.AtTriples (context_now l a.parser) a.triples.items (numbers_now a.parser))) e
+      ap (λ z. cond z (blocks.WithinTriples (l.items a.triples) (triples_state l a.parser)) (blocks.AtTriples (context_now l a.parser) (l.items a.triples) (numbers_now a.parser))) e
 
   -- triples took the symbol
-  pub taken_moved : (a b c : CodeBlock L S V X T) (t : Symbol) (u : CodeTurn) → a.within ≡ true → Goes (triples_state l b.parser) ≡ triples_machine.step (triples_state l a.parser) (symbol_at t)
-      → b.triples.items ≡ a.triples.items → b.most ≡ a.most → Turned l c u (entered_turn l b) → Turned l c u (moved_turn l a t)
+  pub taken_moved : (a b c : CodeBlock L S V X T K) (t : Symbol) (u : CodeTurn) → a.within ≡ true → Goes (triples_state l b.parser) ≡ triples_machine.step (triples_state l a.parser) (symbol_at t)
+      → (l.items b.triples) ≡ (l.items a.triples) → b.most ≡ a.most → Turned l c u (entered_turn l b) → Turned l c u (moved_turn l a t)
   taken_moved a b c t u w e ts m h = λ made.
       h made
       ∙ ap (λ z. blocks.entered (rules_of l made b) z (triples_state l b.parser)) ts
-      ∙ entered_same (rules_of l made b) (rules_of l made a) (ap more_than m) a.triples.items (triples_state l b.parser)
-      ∙ ap (blocks.within (rules_of l made a) (symbol_at t) a.triples.items) e
+      ∙ entered_same (rules_of l made b) (rules_of l made a) (ap more_than m) (l.items a.triples) (triples_state l b.parser)
+      ∙ ap (blocks.within (rules_of l made a) (symbol_at t) (l.items a.triples)) e
       ∙ ap (λ z. blocks.moved (rules_of l made a) z (symbol_at t)) (sym (state_within a true w))
 
   -- it ends them
-  pub over_moved : (a b c : CodeBlock L S V X T) (t : Symbol) (u : CodeTurn) → a.within ≡ true
-      → Ends (context_now l b.parser) (pending_triples b.parser) (numbers_now b.parser) ≡ triples_machine.step (triples_state l a.parser) (symbol_at t)
-      → b.triples.items ≡ a.triples.items → b.most ≡ a.most → Turned l c u (followed_turn l b t) → Turned l c u (moved_turn l a t)
+  pub over_moved : (a b c : CodeBlock L S V X T K) (t : Symbol) (u : CodeTurn) → a.within ≡ true
+      → Ends (context_now l b.parser) (pending_triples l b.parser) (numbers_now b.parser) ≡ triples_machine.step (triples_state l a.parser) (symbol_at t)
+      → (l.items b.triples) ≡ (l.items a.triples) → b.most ≡ a.most → Turned l c u (followed_turn l b t) → Turned l c u (moved_turn l a t)
   over_moved a b c t u w e ts m h = λ made.
       h made
-      ∙ ap (λ z. blocks.followed (rules_of l made b) (symbol_at t) (context_now l b.parser) (z ++ pending_triples b.parser) (numbers_now b.parser)) ts
-      ∙ followed_same (rules_of l made b) (rules_of l made a) (ap more_than m) refl (symbol_at t) (context_now l b.parser) (a.triples.items ++ pending_triples b.parser) (numbers_now b.parser)
-      ∙ ap (blocks.within (rules_of l made a) (symbol_at t) a.triples.items) e
+      ∙ ap (λ z. blocks.followed (rules_of l made b) (symbol_at t) (context_now l b.parser) (z ++ pending_triples l b.parser) (numbers_now b.parser)) ts
+      ∙ followed_same (rules_of l made b) (rules_of l made a) (ap more_than m) refl (symbol_at t) (context_now l b.parser) ((l.items a.triples) ++ pending_triples l b.parser) (numbers_now b.parser)
+      ∙ ap (blocks.within (rules_of l made a) (symbol_at t) (l.items a.triples)) e
       ∙ ap (λ z. blocks.moved (rules_of l made a) z (symbol_at t)) (sym (state_within a true w))
 
   -- triples may begin there
-  pub opening_moved : (a c : CodeBlock L S V X T) (t : Symbol) (u : CodeTurn) → a.within ≡ false → Turned l c u (opening_turn l a t) → Turned l c u (moved_turn l a t)
+  pub opening_moved : (a c : CodeBlock L S V X T K) (t : Symbol) (u : CodeTurn) → a.within ≡ false → Turned l c u (opening_turn l a t) → Turned l c u (moved_turn l a t)
   opening_moved a c t u w h = λ made. h made ∙ ap (λ z. blocks.moved (rules_of l made a) z (symbol_at t)) (sym (state_within a false w))
 
   -- and the symbol begins some
-  pub entered_opening : (a b c : CodeBlock L S V X T) (t : Symbol) (u : CodeTurn) → ((k : TokenKind) (e : ℕ) → t ≢ symbol.Foreign k e)
+  pub entered_opening : (a b c : CodeBlock L S V X T K) (t : Symbol) (u : CodeTurn) → ((k : TokenKind) (e : ℕ) → t ≢ symbol.Foreign k e)
       → triples_state l b.parser ≡ opening (context_now l a.parser) (numbers_now a.parser) (symbol_at t)
-      → b.triples.items ≡ a.triples.items → b.most ≡ a.most → Turned l c u (entered_turn l b) → Turned l c u (opening_turn l a t)
+      → (l.items b.triples) ≡ (l.items a.triples) → b.most ≡ a.most → Turned l c u (entered_turn l b) → Turned l c u (opening_turn l a t)
   entered_opening a b c t u n e ts m h = λ made.
       h made
       ∙ ap (λ z. blocks.entered (rules_of l made b) z (triples_state l b.parser)) ts
-      ∙ entered_same (rules_of l made b) (rules_of l made a) (ap more_than m) a.triples.items (triples_state l b.parser)
-      ∙ ap (blocks.entered (rules_of l made a) a.triples.items) e
-      ∙ sym (opens t n (rules_of l made a) (context_now l a.parser) a.triples.items (numbers_now a.parser))
+      ∙ entered_same (rules_of l made b) (rules_of l made a) (ap more_than m) (l.items a.triples) (triples_state l b.parser)
+      ∙ ap (blocks.entered (rules_of l made a) (l.items a.triples)) e
+      ∙ sym (opens t n (rules_of l made a) (context_now l a.parser) (l.items a.triples) (numbers_now a.parser))
 
   -- whether a symbol may stand, in the turn by it
-  turn_barred : (a : CodeBlock L S V X T) (t : Symbol) (b : Bool) (made : Making T) → b ≡ bars_since a.since (numbers_now a.parser) (symbol_at t)
+  turn_barred : (a : CodeBlock L S V X T K) (t : Symbol) (b : Bool) (made : Making T) → b ≡ bars_since a.since (numbers_now a.parser) (symbol_at t)
       → cond b (blocks.barred (moved_turn l a t made)) (moved_turn l a t made) ≡ block_turn l a t made
   turn_barred a t b made e = ap (λ z. cond z (blocks.barred (moved_turn l a t made)) (moved_turn l a t made)) e
 
   -- a symbol that may stand
-  pub free_step : (a c : CodeBlock L S V X T) (t : Symbol) (u : CodeTurn) → false ≡ bars_since a.since (numbers_now a.parser) (symbol_at t) → Turned l c u (moved_turn l a t) → Turned l c u (block_turn l a t)
+  pub free_step : (a c : CodeBlock L S V X T K) (t : Symbol) (u : CodeTurn) → false ≡ bars_since a.since (numbers_now a.parser) (symbol_at t) → Turned l c u (moved_turn l a t) → Turned l c u (block_turn l a t)
   free_step a c t u e h = λ made. h made ∙ turn_barred a t false made e
 
   -- one that may not stand, after a departure
-  pub stopped_step : (a c d : CodeBlock L S V X T) (t : Symbol) (r : CodeRejection) → true ≡ bars_since a.since (numbers_now a.parser) (symbol_at t)
+  pub stopped_step : (a c d : CodeBlock L S V X T K) (t : Symbol) (r : CodeRejection) → true ≡ bars_since a.since (numbers_now a.parser) (symbol_at t)
       → Turned l c (turn.Stops r) (moved_turn l a t) → Turned l d (turn.Stops r) (block_turn l a t)
   stopped_step a c d t r e h = λ made. ap blocks.barred (h made) ∙ turn_barred a t true made e
 
   -- and with none before
-  pub barred_step : (a c d : CodeBlock L S V X T) (t : Symbol) (u : CodeTurn) → true ≡ bars_since a.since (numbers_now a.parser) (symbol_at t) → ((r : CodeRejection) → u ≢ turn.Stops r)
+  pub barred_step : (a c d : CodeBlock L S V X T K) (t : Symbol) (u : CodeTurn) → true ≡ bars_since a.since (numbers_now a.parser) (symbol_at t) → ((r : CodeRejection) → u ≢ turn.Stops r)
       → Turned l c u (moved_turn l a t) → Turned l d (turn.Stops (rejection.Broken Syntax)) (block_turn l a t)
   barred_step a c d t turn.Takes e n h = λ made. ap blocks.barred (h made) ∙ turn_barred a t true made e
   barred_step a c d t (turn.Shuts k) e n h =
@@ -159,24 +159,24 @@ module _ {L S V X T : Type 0} (l : TypedLanguage S V X T) where
   barred_step a c d t (turn.Stops r) e n h = absurd (n r refl)
 
   -- a text that ends where triples may begin
-  pub end_between : (a : CodeBlock L S V X T) (made : Making T) → a.within ≡ false → Broken Syntax ≡ end_turn l a made
+  pub end_between : (a : CodeBlock L S V X T K) (made : Making T) → a.within ≡ false → Broken Syntax ≡ end_turn l a made
   end_between a made w = ap (blocks.block_ended (rules_of l made a)) (sym (state_within a false w))
 
   -- or within some, by what a brace would do
-  end_within : (a : CodeBlock L S V X T) (made : Making T) (t : triples.Turn X T) → a.within ≡ true → t ≡ triples_machine.step (triples_state l a.parser) (grammar.Foreign kind.CloseBrace 0)
-      → blocks.ended_within (rules_of l made a) a.triples.items t ≡ end_turn l a made
+  end_within : (a : CodeBlock L S V X T K) (made : Making T) (t : triples.Turn X T) → a.within ≡ true → t ≡ triples_machine.step (triples_state l a.parser) (grammar.Foreign kind.CloseBrace 0)
+      → blocks.ended_within (rules_of l made a) (l.items a.triples) t ≡ end_turn l a made
   end_within a made t w e =
-      ap (blocks.ended_within (rules_of l made a) a.triples.items) e ∙ ap (blocks.block_ended (rules_of l made a)) (sym (state_within a true w))
+      ap (blocks.ended_within (rules_of l made a) (l.items a.triples)) e ∙ ap (blocks.block_ended (rules_of l made a)) (sym (state_within a true w))
 
-  pub end_unfinished : (a : CodeBlock L S V X T) (s : triples.State X T) (made : Making T) → a.within ≡ true → Goes s ≡ triples_machine.step (triples_state l a.parser) (grammar.Foreign kind.CloseBrace 0)
+  pub end_unfinished : (a : CodeBlock L S V X T K) (s : triples.State X T) (made : Making T) → a.within ≡ true → Goes s ≡ triples_machine.step (triples_state l a.parser) (grammar.Foreign kind.CloseBrace 0)
       → ((f : Fault) → s ≢ Lost f) → Broken Syntax ≡ end_turn l a made
-  end_unfinished a s made w e h = unfinished (rules_of l made a) a.triples.items s h ∙ end_within a made (Goes s) w e
+  end_unfinished a s made w e h = unfinished (rules_of l made a) (l.items a.triples) s h ∙ end_within a made (Goes s) w e
 
-  pub end_lost : (a : CodeBlock L S V X T) (s : triples.State X T) (made : Making T) (f : Fault) → a.within ≡ true → Goes s ≡ triples_machine.step (triples_state l a.parser) (grammar.Foreign kind.CloseBrace 0)
+  pub end_lost : (a : CodeBlock L S V X T K) (s : triples.State X T) (made : Making T) (f : Fault) → a.within ≡ true → Goes s ≡ triples_machine.step (triples_state l a.parser) (grammar.Foreign kind.CloseBrace 0)
       → s ≡ Lost f → Broken f ≡ end_turn l a made
-  end_lost a s made f w e h = ap (λ z. blocks.ended_within (rules_of l made a) a.triples.items (Goes z)) (sym h) ∙ end_within a made (Goes s) w e
+  end_lost a s made f w e h = ap (λ z. blocks.ended_within (rules_of l made a) (l.items a.triples) (Goes z)) (sym h) ∙ end_within a made (Goes s) w e
 
-  pub end_over : (a : CodeBlock L S V X T) (env : Context X T) (P : List T) (n : Numbers) (b : Bool) (made : Making T) → a.within ≡ true
-      → Ends env P n ≡ triples_machine.step (triples_state l a.parser) (grammar.Foreign kind.CloseBrace 0) → b ≡ more_than a.most (a.triples.items ++ P)
+  pub end_over : (a : CodeBlock L S V X T K) (env : Context X T) (P : List T) (n : Numbers) (b : Bool) (made : Making T) → a.within ≡ true
+      → Ends env P n ≡ triples_machine.step (triples_state l a.parser) (grammar.Foreign kind.CloseBrace 0) → b ≡ more_than a.most ((l.items a.triples) ++ P)
       → cond b OutOfProfile (Broken Syntax) ≡ end_turn l a made
   end_over a env P n b made w e m = ap (λ z. cond z OutOfProfile (Broken Syntax)) m ∙ end_within a made (Ends env P n) w e

@@ -46,15 +46,15 @@ HasGiven None n = Unit {0}
 HasGiven (Some k) n = k ≤ n.1
 
 -- in a language of the code
-module _ {L S V X T : Type 0} (l : TypedLanguage S V X T) where
+module _ {L S V X T K : Type 0} (l : TypedLanguage S V X T K) where
   -- the state of a block
-  abbrev pub block_state : CodeBlock L S V X T → BlockState X T
+  abbrev pub block_state : CodeBlock L S V X T K → BlockState X T
   block_state b =
-      if b.within then WithinTriples b.triples.items (triples_state l b.parser)
-      else AtTriples (context_now l b.parser) b.triples.items (numbers_now b.parser)
+      if b.within then WithinTriples (l.items b.triples) (triples_state l b.parser)
+      else AtTriples (context_now l b.parser) (l.items b.triples) (numbers_now b.parser)
 
   -- how it is read, where its triples make this operation
-  abbrev pub rules_of : (List T → Option UpdateOperation) → CodeBlock L S V X T → Block X T
+  abbrev pub rules_of : (List T → Option UpdateOperation) → CodeBlock L S V X T K → Block X T
   rules_of made b = record {
     language = (context_now l b.parser).language;
     bars = bars_since b.since (numbers_now b.parser);
@@ -63,7 +63,7 @@ module _ {L S V X T : Type 0} (l : TypedLanguage S V X T) where
   }
 
   -- the context between operations
-  abbrev pub scope_of : CodeBlock L S V X T → Scope
+  abbrev pub scope_of : CodeBlock L S V X T K → Scope
   scope_of b = in_language of_terms (context_now l b.parser)
 
 -- the state of a parser at a place

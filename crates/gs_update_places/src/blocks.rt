@@ -22,7 +22,7 @@ pub enum BlockTurn {
 pub struct Block<L: Language> {
     pub(crate) parser: TripleParser<L>,
     /// The triples before those that are being read.
-    pub(crate) triples: Vec<L::Triple>,
+    pub(crate) triples: L::List,
     /// Triples are being read; else they may begin.
     pub(crate) within: bool,
     /// No label may stand that has one of the first so many numbers.
@@ -48,9 +48,9 @@ impl<L: Language> Block<L> {
         let Some(most) = self.most else {
             return false;
         };
-        match most.checked_sub(self.triples.len()) {
+        match most.checked_sub(L::count(&self.triples)) {
             None => true,
-            Some(left) => self.parser.count() > left,
+            Some(left) => self.parser.has_more_than(left),
         }
     }
 
@@ -75,8 +75,8 @@ impl<L: Language> Block<L> {
 
     /// Triples are over: they join those before. Whether they are too many.
     fn gather(&mut self) -> Result<bool, AllocError>
-        ensures many { IfOk result (λ b. b ≡ more_than self.old.most (all_triples self.old)) }
-        ensures triples { OnOk result (self.new.triples.items ≡ all_triples self.old) }
+        ensures many { IfOk result (λ b. b ≡ more_than self.old.most (all_triples L.language self.old)) }
+        ensures triples { OnOk result (L.language.items self.new.triples ≡ all_triples L.language self.old) }
         ensures context { context_now L.language self.new.parser ≡ context_now L.language self.old.parser }
         ensures numbers { numbers_now self.new.parser ≡ numbers_now self.old.parser }
         ensures bounds { KeepsBounds self.old self.new }
@@ -84,7 +84,7 @@ impl<L: Language> Block<L> {
         self.parser.append_to(&mut self.triples)?;
         match self.most {
             None => Ok(false),
-            Some(most) => Ok(self.triples.len() > most),
+            Some(most) => Ok(L::count(&self.triples) > most),
         }
     }
 
@@ -219,10 +219,10 @@ impl<L: Language> Block<L> {
     }
 
     /// What stays for the next operation, and the triples of this one.
-    pub fn into_parts(self) -> (Scope, Vec<L::Triple>)
+    pub fn into_parts(self) -> (Scope, L::List)
         ensures context { scope_context result.0 ≡ in_language of_terms (context_now L.language self.parser) }
         ensures numbers { scope_numbers result.0 ≡ numbers_now self.parser }
-        ensures triples { result.1.items ≡ self.triples.items }
+        ensures triples { result.1 ≡ self.triples }
     {
         let Block {
             parser,
@@ -249,7 +249,7 @@ pub(crate) fn inserting(alloc: Global, scope: Scope) -> Block<Terms>
     let since = Some(parser.last_number());
     Block {
         parser,
-        triples: Vec::new(alloc),
+        triples: Terms::no_triples(alloc),
         within: false,
         since,
         most: None,
@@ -266,7 +266,7 @@ pub(crate) fn deleting(alloc: Global, scope: Scope) -> Block<Terms>
     };
     Block {
         parser: TripleParser::within(scope, allowed),
-        triples: Vec::new(alloc),
+        triples: Terms::no_triples(alloc),
         within: false,
         since: None,
         most: None,
@@ -283,7 +283,7 @@ pub(crate) fn seeking(alloc: Global, scope: Scope) -> Block<Patterns>
     };
     Block {
         parser: TripleParser::within(scope, allowed),
-        triples: Vec::new(alloc),
+        triples: Patterns::no_triples(alloc),
         within: false,
         since: None,
         most: Some(MAX_PATTERNS),

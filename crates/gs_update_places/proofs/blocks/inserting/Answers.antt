@@ -8,7 +8,7 @@ pub returns : goal.returns
 returns c = inserting_starts c.args.scope _ (record {
   context = c.within-parser.ensures.context;
   numbers = c.within-parser.ensures.numbers;
-  triples = c.new.ensures.items;
+  triples = c.no_triples.ensures;
   within = refl;
   since = ap Some (c.last_number.ensures ∙ ap (λ (z : Numbers). z.1) c.within-parser.ensures.numbers);
   most = refl;

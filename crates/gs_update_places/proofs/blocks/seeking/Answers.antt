@@ -6,7 +6,7 @@ pub returns : goal.returns
 returns c = seeking_starts c.args.scope _ (record {
   context = c.within.ensures.context;
   numbers = c.within.ensures.numbers;
-  triples = c.new.ensures.items;
+  triples = c.no_triples.ensures;
   within = refl;
   since = refl;
   most = refl;

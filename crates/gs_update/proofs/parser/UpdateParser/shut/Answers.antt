@@ -1,6 +1,9 @@
 use Rattle.std.proofs.Common.{ℕ, sym, ap, ◌∙◌, subst}
 use Rattle.std.specs.Prelude.{◌==◌, Some, None}
+use Rattle.std.specs.declared.vec.Vec.{Vec}
+use Rattle.std.specs.declared.alloc.Global.{Global}
 use Rattle.std.proofs.lemmas.Result.{on_ok_weaker}
+use Rattle.gs_term.specs.declared.patterns.Pattern.{Pattern}
 use Rattle.gs_triple_lists.specs.Lists.{Listed}
 use Rattle.gs_triple_values.specs.Typed.{terms, patterns}
 use Rattle.gs_triple_parser.specs.Views.{scope_context, scope_numbers, numbers_now}
@@ -23,7 +26,7 @@ returns-in_ok-triples-in-Inserting c =
     (closes c.args.self.now c.replace.new.dest c.conclude.new.self (place.Inserting b) c.args.end (concluded (Some (Inserts P)) (scope_context s) (scope_numbers s) c.args.end)
     (concluded_alike s (scope_of terms b) (numbers_now b.parser) (Some (Inserts P)) (Some (Inserts b.triples.items)) c.args.end
     c.into_parts-scope.ensures.context c.into_parts-scope.ensures.numbers
-    (ap (λ (l : Listed). Some (Inserts l.items)) c.in_ok-triples-in-Inserting.ensures ∙ ap (λ Q. Some (Inserts Q)) c.into_parts-scope.ensures.triples)) c.in-Inserting.ensures.value)
+    (ap (λ (l : Listed). Some (Inserts l.items)) (c.in_ok-triples-in-Inserting.ensures ∙ c.into_parts-scope.ensures.triples))) c.in-Inserting.ensures.value)
     c.conclude.ensures
 
 pub returns-in_ok-triples-in-Deleting : goal.returns-in_ok-triples-in-Deleting
@@ -35,7 +38,7 @@ returns-in_ok-triples-in-Deleting c =
     (closes c.args.self.now c.replace.new.dest c.conclude-in-Deleting.new.self (place.Deleting b) c.args.end (concluded (Some (DeletesData P)) (scope_context s) (scope_numbers s) c.args.end)
     (concluded_alike s (scope_of terms b) (numbers_now b.parser) (Some (DeletesData P)) (Some (DeletesData b.triples.items)) c.args.end
     c.into_parts-scope-in-Deleting.ensures.context c.into_parts-scope-in-Deleting.ensures.numbers
-    (ap (λ (l : Listed). Some (DeletesData l.items)) c.in_ok-triples-in-Deleting.ensures ∙ ap (λ Q. Some (DeletesData Q)) c.into_parts-scope-in-Deleting.ensures.triples)) c.in-Deleting.ensures.value)
+    (ap (λ (l : Listed). Some (DeletesData l.items)) (c.in_ok-triples-in-Deleting.ensures ∙ c.into_parts-scope-in-Deleting.ensures.triples))) c.in-Deleting.ensures.value)
     c.conclude-in-Deleting.ensures
 
 pub returns-then-is_empty : goal.returns-then-is_empty
@@ -46,7 +49,7 @@ returns-then-is_empty c =
     on_ok_weaker c.stand.result
     (closes c.args.self.now c.replace.new.dest c.stand.new.self (place.Seeking b) c.args.end (concluded None (scope_context s) (scope_numbers s) c.args.end)
     (concluded_alike s (scope_of patterns b) (numbers_now b.parser) None (some_patterns b.triples.items) c.args.end c.into_parts-scope-in-Seeking.ensures.context c.into_parts-scope-in-Seeking.ensures.numbers
-    (are_none P (sym (c.is_empty.ensures ∙ ap (λ (n : ℕ). n == 0) c.into_parts-scope-in-Seeking.result.1.ok.0) ∙ c.if-is_empty.true) ∙ ap some_patterns c.into_parts-scope-in-Seeking.ensures.triples)) c.in-Seeking.ensures.value)
+    (are_none P (sym (c.is_empty.ensures ∙ ap (λ (n : ℕ). n == 0) c.into_parts-scope-in-Seeking.result.1.ok.0) ∙ c.if-is_empty.true) ∙ ap (λ (v : Vec Pattern Global). some_patterns v.items) c.into_parts-scope-in-Seeking.ensures.triples)) c.in-Seeking.ensures.value)
     c.stand.ensures
 
 pub returns-else-is_empty : goal.returns-else-is_empty
@@ -57,7 +60,7 @@ returns-else-is_empty c =
     on_ok_weaker c.conclude-in-Seeking.result
     (closes c.args.self.now c.replace.new.dest c.conclude-in-Seeking.new.self (place.Seeking b) c.args.end (concluded (Some (DeletesWhere P)) (scope_context s) (scope_numbers s) c.args.end)
     (concluded_alike s (scope_of patterns b) (numbers_now b.parser) (Some (DeletesWhere P)) (some_patterns b.triples.items) c.args.end c.into_parts-scope-in-Seeking.ensures.context c.into_parts-scope-in-Seeking.ensures.numbers
-    (are_some P (sym (c.is_empty.ensures ∙ ap (λ (n : ℕ). n == 0) c.into_parts-scope-in-Seeking.result.1.ok.0) ∙ c.if-is_empty.false) ∙ ap some_patterns c.into_parts-scope-in-Seeking.ensures.triples)) c.in-Seeking.ensures.value)
+    (are_some P (sym (c.is_empty.ensures ∙ ap (λ (n : ℕ). n == 0) c.into_parts-scope-in-Seeking.result.1.ok.0) ∙ c.if-is_empty.false) ∙ ap (λ (v : Vec Pattern Global). some_patterns v.items) c.into_parts-scope-in-Seeking.ensures.triples)) c.in-Seeking.ensures.value)
     c.conclude-in-Seeking.ensures
 
 pub returns-in_default : goal.returns-in_default

@@ -29,7 +29,7 @@ returns-then-many g c = λ made.
     let a = c.args.self.now in
     let p = c.step.new.self in
     let over = subst (λ u. triples_turn l p u ≡ machine.step (triples_state l a.parser) (Foreign kind.CloseBrace 0)) c.in-Over.is c.in_ok-step.ensures in
-    end_over l a (context_now l p) (pending_triples p) (numbers_now p) true made c.if-not-self.false over (sym c.if-many.true ∙ c.in_ok-many-in-Over.ensures.many)
+    end_over l a (context_now l p) (pending_triples l p) (numbers_now p) true made c.if-not-self.false over (sym c.if-many.true ∙ c.in_ok-many-in-Over.ensures.many)
 
 pub returns-else-many : goal.returns-else-many
 returns-else-many g c = λ made.
@@ -37,4 +37,4 @@ returns-else-many g c = λ made.
     let a = c.args.self.now in
     let p = c.step.new.self in
     let over = subst (λ u. triples_turn l p u ≡ machine.step (triples_state l a.parser) (Foreign kind.CloseBrace 0)) c.in-Over.is c.in_ok-step.ensures in
-    end_over l a (context_now l p) (pending_triples p) (numbers_now p) false made c.if-not-self.false over (sym c.if-many.false ∙ c.in_ok-many-in-Over.ensures.many)
+    end_over l a (context_now l p) (pending_triples l p) (numbers_now p) false made c.if-not-self.false over (sym c.if-many.false ∙ c.in_ok-many-in-Over.ensures.many)

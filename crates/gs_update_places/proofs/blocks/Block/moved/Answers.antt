@@ -46,4 +46,4 @@ returns-in-Over-clause-stays g c =
     let over = subst (λ u. triples_turn l c.step.new.self u ≡ machine.step (triples_state l a.parser) (symbol_at c.args.symbol)) c.in-Over.is c.in_ok-step.ensures in
     IfOk-weaker c.followed.result (λ u. Turned l c.followed.new.self u (followed_turn l (record a { parser = c.step.new.self }) c.args.symbol)) (StaysUnless l a c.followed.new.self)
     (λ u _. followed_stays l a (record a { parser = c.step.new.self }) c.followed.new.self u refl refl c.followed.ensures.bounds c.followed.ensures.context c.followed.ensures.numbers c.requires
-    (over_keeps l a.parser c.step.new.self (symbol_at c.args.symbol) (pending_triples c.step.new.self) over)) c.followed.ensures.turn
+    (over_keeps l a.parser c.step.new.self (symbol_at c.args.symbol) (pending_triples l c.step.new.self) over)) c.followed.ensures.turn
