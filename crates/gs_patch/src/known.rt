@@ -1,22 +1,37 @@
 //! Keys of triples whose terms all have numbers.
-ghost use Rattle.std.specs.Prelude.{IfOk, MatchOption};
-ghost use Rattle.gs_triple_lists.specs.Readers.{triple_listed};
+ghost use Rattle.std.specs.Prelude.{◌<◌, length, IfOk, MatchOption};
 ghost use Rattle.gs_staging.specs.Keys.{IsKeyOf};
-ghost use Rattle.gs_patch.specs.Known.{IsUnknown, AreKnown};
+ghost use Rattle.gs_patch.specs.Known.{AreFound, IsMissing, IsFound, HasPlaces, AreKnown};
 
-use gs_dict::Dict;
+use gs_dict::{Dict, TermId};
 use gs_pool::Key;
-use gs_triple_lists::{ListedTriple, TripleList};
+use gs_term::TermText;
+use gs_triple_lists::{TripleList, TripleNumbers};
 use std::alloc::{AllocError, Global};
 
-/// The key of a triple, unless one of its terms has no number.
-fn key_in(dict: &Dict, triple: &ListedTriple) -> Option<Key>
-    ensures { MatchOption result (IsUnknown dict.now.terms (triple_listed triple.now))
-        (IsKeyOf dict.now.terms (triple_listed triple.now)) }
+/// For each term of a list its number, where it has one.
+fn find_all(
+    alloc: Global,
+    dict: &Dict,
+    terms: &[TermText],
+) -> Result<Vec<Option<TermId>>, AllocError>
+    ensures { IfOk result (λ ids. AreFound dict.now.terms terms.now ids.items) }
 {
-    let subject = dict.find(triple.subject())?;
-    let predicate = dict.find(triple.predicate())?;
-    let object = dict.find(triple.object())?;
+    let mut ids = Vec::with_capacity(alloc, terms.len())?;
+    for term in terms {
+        ids.push_reserved(dict.find(term));
+    }
+    Ok(ids)
+}
+
+/// The key of a triple of a list, unless one of its terms has no number.
+fn key_in(ids: &[Option<TermId>], numbers: TripleNumbers) -> Option<Key>
+    requires { HasPlaces ids.now numbers }
+    ensures { MatchOption result (IsMissing ids.now numbers) (IsFound ids.now numbers) }
+{
+    let subject = ids[numbers.subject as usize]?;
+    let predicate = ids[numbers.predicate as usize]?;
+    let object = ids[numbers.object as usize]?;
     Some(Key {
         subject: subject.number,
         predicate: predicate.number,
@@ -25,14 +40,15 @@ fn key_in(dict: &Dict, triple: &ListedTriple) -> Option<Key>
 }
 
 /// The keys of those of some triples whose terms all have numbers. A triple with another term is in
-/// no graph of these numbers.
+/// no graph of these numbers. Each term of the list is looked up once, however often it comes.
 pub fn known_keys(alloc: Global, dict: &Dict, triples: &TripleList) -> Result<Vec<Key>, AllocError>
     ensures { IfOk result (λ keys. AreKnown dict.now.terms triples.now.items keys.items) }
 {
+    let (terms, numbers) = triples.parts();
+    let ids = find_all(alloc, dict, terms)?;
     let mut keys = Vec::new(alloc);
-    let mut left = triples.triples();
-    while let Some(triple) = left.next() {
-        let Some(key) = key_in(dict, &triple) else {
+    for three in numbers {
+        let Some(key) = key_in(ids.as_slice(), *three) else {
             continue;
         };
         keys.push(key)?;

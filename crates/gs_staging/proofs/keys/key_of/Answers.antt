@@ -5,22 +5,22 @@ use Rattle.gs_staging.proofs.keys.key_of.Goals as goal
 pub returns-in_err-object-clause-grows : goal.returns-in_err-object-clause-grows
 returns-in_err-object-clause-grows c =
     let t = triple_of_numbers c.args.terms.now c.args.numbers in
-    triple_grows t c.args.dict.now c.number_of.new.dict c.number_of-2.new.dict c.number_of-3.new.dict c.number_of.result c.number_of-2.result c.number_of-3.result c.number_of.ensures c.number_of-2.ensures c.number_of-3.ensures
+    triple_grows t c.args.dict.now c.number_of.new.dict c.number_of-2.new.dict c.number_of-3.new.dict c.number_of.result c.number_of-2.result c.number_of-3.result c.number_of.ensures.value c.number_of-2.ensures.value c.number_of-3.ensures.value
 
 pub returns-in_err-object-clause-only : goal.returns-in_err-object-clause-only
 returns-in_err-object-clause-only c =
     let t = triple_of_numbers c.args.terms.now c.args.numbers in
-    triple_only t c.args.dict.now c.number_of.new.dict c.number_of-2.new.dict c.number_of-3.new.dict c.number_of.result c.number_of-2.result c.number_of-3.result c.number_of.ensures c.number_of-2.ensures c.number_of-3.ensures
+    triple_only t c.args.dict.now c.number_of.new.dict c.number_of-2.new.dict c.number_of-3.new.dict c.number_of.result c.number_of-2.result c.number_of-3.result c.number_of.ensures.value c.number_of-2.ensures.value c.number_of-3.ensures.value
 
 pub returns-clause-grows : goal.returns-clause-grows
 returns-clause-grows c =
     let t = triple_of_numbers c.args.terms.now c.args.numbers in
-    triple_grows t c.args.dict.now c.number_of.new.dict c.number_of-2.new.dict c.number_of-3.new.dict c.number_of.result c.number_of-2.result c.number_of-3.result c.number_of.ensures c.number_of-2.ensures c.number_of-3.ensures
+    triple_grows t c.args.dict.now c.number_of.new.dict c.number_of-2.new.dict c.number_of-3.new.dict c.number_of.result c.number_of-2.result c.number_of-3.result c.number_of.ensures.value c.number_of-2.ensures.value c.number_of-3.ensures.value
 
 pub returns-clause-only : goal.returns-clause-only
 returns-clause-only c =
     let t = triple_of_numbers c.args.terms.now c.args.numbers in
-    triple_only t c.args.dict.now c.number_of.new.dict c.number_of-2.new.dict c.number_of-3.new.dict c.number_of.result c.number_of-2.result c.number_of-3.result c.number_of.ensures c.number_of-2.ensures c.number_of-3.ensures
+    triple_only t c.args.dict.now c.number_of.new.dict c.number_of-2.new.dict c.number_of-3.new.dict c.number_of.result c.number_of-2.result c.number_of-3.result c.number_of.ensures.value c.number_of-2.ensures.value c.number_of-3.ensures.value
 
 pub returns-clause-ok : goal.returns-clause-ok
 returns-clause-ok c =
@@ -29,10 +29,10 @@ returns-clause-ok c =
     let f = c.number_of-2.new.dict in
     let g = c.number_of-3.new.dict in
     let t = triple_of_numbers c.args.terms.now c.args.numbers in
-    let first = interned_grows e t.predicate c.number_of-2.result f c.number_of-2.ensures in
-    let second = interned_grows f t.object c.number_of-3.result g c.number_of-3.ensures in
+    let first = interned_grows e t.predicate c.number_of-2.result f c.number_of-2.ensures.value in
+    let second = interned_grows f t.object c.number_of-3.result g c.number_of-3.ensures.value in
     record {
-      subject = number_kept e g (grows_twice e f g first second) c.in_ok-subject.subject.number t.subject (interned_number d t.subject c.in_ok-subject.subject e c.in_ok-subject.ensures);
-      predicate = number_kept f g second c.in_ok-predicate.predicate.number t.predicate (interned_number e t.predicate c.in_ok-predicate.predicate f c.in_ok-predicate.ensures);
-      object = interned_number f t.object c.in_ok-object.object g c.in_ok-object.ensures;
+      subject = number_kept e g (grows_twice e f g first second) c.in_ok-subject.subject.number t.subject (interned_number d t.subject c.in_ok-subject.subject e c.in_ok-subject.ensures.value);
+      predicate = number_kept f g second c.in_ok-predicate.predicate.number t.predicate (interned_number e t.predicate c.in_ok-predicate.predicate f c.in_ok-predicate.ensures.value);
+      object = interned_number f t.object c.in_ok-object.object g c.in_ok-object.ensures.value;
     }

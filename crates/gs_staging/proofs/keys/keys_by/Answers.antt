@@ -16,7 +16,7 @@ returns-in_err-key-clause-only c =
     let ns = c.args.numbers.now in
     let ts = triples_of_numbers terms ns in
     let i = c.loop-three.three-index in
-    only_in c.args.dict.now.terms c.loop-three.dict.terms c.key_of.new.dict.terms ts i (triple_of_numbers terms (get_or ns i none)) c.loop-three.invariant.1
+    only_in c.args.dict.now.terms c.loop-three.dict.terms c.key_of.new.dict.terms ts i (triple_of_numbers terms (get_or ns i none)) c.loop-three.invariant.only
     (triple_there terms ns ts i none refl c.loop-three-test.true) c.key_of.ensures.only
 
 pub loop-three-preserved : goal.loop-three-preserved
@@ -29,11 +29,12 @@ loop-three-preserved c =
     let ks = c.loop-three.keys.items in
     let e = c.key_of.new.dict in
     let grows = c.key_of.ensures.grows in
-    let all = keys_more c.loop-three.dict e grows (triples_of_numbers terms (take i ns)) ks t c.in_ok-key.key c.loop-three.invariant.2 c.in_ok-key.ensures.ok in
-    let gone = map_more (triple_of_numbers terms) ns i none c.loop-three-test.true in (
-      grows_twice c.args.dict.now c.loop-three.dict e c.loop-three.invariant.0 grows,
-      only_in c.args.dict.now.terms c.loop-three.dict.terms e.terms ts i t c.loop-three.invariant.1 (triple_there terms ns ts i none refl c.loop-three-test.true) c.key_of.ensures.only,
-      subst (AreKeysOf e.terms (triples_of_numbers terms (take (i + 1) ns))) (sym c.push_reserved.ensures.items) (subst (λ us. AreKeysOf e.terms us (ks ++ c.in_ok-key.key ∷ [])) (sym gone) all),
-      omega (arith, c.push_reserved.ensures.capacity, c.loop-three.invariant.3),
-      omega (arith, c.push_reserved.ensures.len, c.loop-three.invariant.4),
-    )
+    let all = keys_more c.loop-three.dict e grows (triples_of_numbers terms (take i ns)) ks t c.in_ok-key.key c.loop-three.invariant.keys c.in_ok-key.ensures.ok in
+    let gone = map_more (triple_of_numbers terms) ns i none c.loop-three-test.true in record {
+      grows = grows_twice c.args.dict.now c.loop-three.dict e c.loop-three.invariant.grows grows;
+      only = only_in c.args.dict.now.terms c.loop-three.dict.terms e.terms ts i t c.loop-three.invariant.only (triple_there terms ns ts i none refl c.loop-three-test.true) c.key_of.ensures.only;
+      noted = c.key_of.ensures.noted;
+      keys = subst (AreKeysOf e.terms (triples_of_numbers terms (take (i + 1) ns))) (sym c.push_reserved.ensures.items) (subst (λ us. AreKeysOf e.terms us (ks ++ c.in_ok-key.key ∷ [])) (sym gone) all);
+      room = omega (arith, c.push_reserved.ensures.capacity, c.loop-three.invariant.room);
+      count = omega (arith, c.push_reserved.ensures.len, c.loop-three.invariant.count);
+    }
