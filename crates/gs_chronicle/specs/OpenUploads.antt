@@ -1,5 +1,5 @@
 -- What was staged so far to an open upload.
-use Rattle.std.specs.Prelude.{◌≡◌, ◌+◌, ◌^◌, ◌<◌, ◌≤◌, List, ◌++◌, length, min, vec_len, vec_capacity, MatchOption}
+use Rattle.std.specs.Prelude.{◌≡◌, ℕ, ◌+◌, ◌^◌, ◌<◌, ◌≤◌, Bool, ◌==◌, ◌&&◌, ◌||◌, nat_lt, nat_le, List, ◌++◌, length, min, vec_len, vec_capacity, MatchOption}
 use Rattle.gs_model.specs.Triples.{RdfTriple}
 use Rattle.gs_model.specs.Graphs.{Graph, graph_of}
 use Rattle.gs_packed_triples.specs.Triples.{packed_triples, HasRoomFor}
@@ -14,6 +14,11 @@ triples_so_far u = all_triples u.lists.items ++ packed_triples u.gathered
 -- the graph of all that was staged so far
 abbrev pub graph_so_far : OpenUpload → Graph
 graph_so_far u = graph_of (triples_so_far u)
+
+-- Whether a list is kept by its small form, where it has one: after so many triples, and beside so many lists that are kept
+-- apart, it is the first that has a triple, or it has at least 32 and fewer than 16,384 lists are kept apart.
+abbrev pub keeps_form : ℕ → ℕ → ℕ → Bool
+keeps_form before apart count = (before == 0 && nat_lt 0 count) || (nat_le 32 count && nat_lt apart 16_384)
 
 -- there are places for what is gathered and for one list more
 abbrev pub HasPlace : OpenUpload → Type 0

@@ -1,6 +1,5 @@
 //! Open uploads.
-ghost use Rattle.std.specs.Prelude.{◌≡◌, ◌+◌, ◌≤◌, ◌++◌, length, min, vec_len, vec_capacity, IfSome};
-ghost use Rattle.gs_small_triples.specs.Small.{small_triples};
+ghost use Rattle.std.specs.Prelude.{◌≡◌, ◌+◌, ◌≤◌, ◌++◌, length, min, vec_len, vec_capacity};
 ghost use Rattle.gs_packed_triples.specs.Triples.{packed_triples};
 ghost use Rattle.gs_chronicle.specs.KeptLists.{all_triples};
 
@@ -37,32 +36,13 @@ pub struct OpenUpload {
     ghost place: { vec_len lists + min (length (packed_triples gathered)) 1 ≤ vec_capacity lists },
 }
 
-/// The small form by which a list is kept, where so many triples came before it, and so many lists are
-/// kept apart. `None` where it is gathered.
-fn kept_form(
-    count: usize,
-    lists: usize,
-    list: &TripleList,
-    small: Option<SmallTriples>,
-) -> Option<SmallTriples>
-    requires { IfSome small (λ s. small_triples s ≡ list.now.items) }
-    ensures { IfSome result (λ s. small_triples s ≡ list.now.items) }
-{
-    let is_first = count == 0 && !list.is_empty();
-    if is_first || (list.len() >= FEW && lists < MOST) {
-        small
-    } else {
-        None
-    }
-}
-
 impl OpenUpload {
-    ghost use Rattle.std.specs.Prelude.{◌≡◌, ◌+◌, ◌<◌, ◌^◌, [], ◌++◌, true, length, IfSome};
+    ghost use Rattle.std.specs.Prelude.{◌≡◌, ◌+◌, ◌<◌, ◌^◌, [], ◌++◌, if◌then◌else◌, true, length, vec_len, None, IfSome};
     ghost use Rattle.gs_model.specs.Graphs.{empty_graph, with_triples};
     ghost use Rattle.gs_small_triples.specs.Small.{small_triples};
     ghost use Rattle.gs_packed_triples.specs.Triples.{HasRoomFor};
     ghost use Rattle.gs_chronicle.specs.Uploads.{staged_triples};
-    ghost use Rattle.gs_chronicle.specs.OpenUploads.{triples_so_far, graph_so_far, HasPlace, HasRoomToStage};
+    ghost use Rattle.gs_chronicle.specs.OpenUploads.{triples_so_far, graph_so_far, keeps_form, HasPlace, HasRoomToStage};
 
     /// An upload of this kind, this request number and this condition, to which nothing was staged yet.
     /// Takes no memory.
@@ -103,6 +83,21 @@ impl OpenUpload {
         made.is_ok()
     }
 
+    /// The small form by which a list is kept that comes next. `None` where it is gathered.
+    fn kept_form(&self, list: &TripleList, small: Option<SmallTriples>) -> Option<SmallTriples>
+        requires { IfSome small (λ s. small_triples s ≡ list.now.items) }
+        ensures value { result ≡
+            if keeps_form self.now.count (vec_len self.now.lists) (length list.now.items) then small else None }
+        ensures triples { IfSome result (λ s. small_triples s ≡ list.now.items) }
+    {
+        let is_first = self.count == 0 && !list.is_empty();
+        if is_first || (list.len() >= FEW && self.lists.len() < MOST) {
+            small
+        } else {
+            None
+        }
+    }
+
     /// Makes room for a list, with its small form where there is one. False where memory is refused, or
     /// where 64 bits cannot count the triples or the bytes of their texts.
     pub fn make_room(&mut self, list: &TripleList, small: Option<SmallTriples>) -> bool
@@ -112,11 +107,14 @@ impl OpenUpload {
         ensures since { self.new.since ≡ self.old.since }
         ensures triples { triples_so_far self.new ≡ triples_so_far self.old }
         ensures room { result ≡ true → HasRoomToStage self.new list.now.items }
+        ensures next { result ≡ true →
+            self.new.next ≡
+            if keeps_form self.old.count (vec_len self.old.lists) (length list.now.items) then small else None }
     {
         if self.count.checked_add(list.len()).is_none() || !self.make_place() {
             return false;
         }
-        let next = kept_form(self.count, self.lists.len(), list, small);
+        let next = self.kept_form(list, small);
         drop(mem::replace(&mut self.next, next));
         if self.next.is_some() {
             return true;

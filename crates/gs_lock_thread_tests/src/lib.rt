@@ -15,3 +15,5 @@ mod replays;
 mod rounds;
 #[cfg(test)]
 mod threads;
+#[cfg(test)]
+mod uploads;

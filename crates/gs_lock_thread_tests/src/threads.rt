@@ -1,5 +1,5 @@
 //! Four threads that write, read, patch and delete graphs of their own and one that all share, and read all
-//! of them; or count together in a graph of all.
+//! of them; or count together in a graph of all; or put one long list each.
 ghost use Rattle.std.specs.Prelude.{◌≡◌, ◌<◌, [], codes};
 ghost use Rattle.crossbeam_utils.specs.Seq.{cell_view};
 ghost use Rattle.gs_core.specs.Settings.{start_at};
@@ -10,6 +10,7 @@ use crate::models::Model;
 use crate::moments::{is_moment, read_all as read_moment};
 use crate::replays::{counts_of_all, is_replayed, read, read_all, replays, stands};
 use crate::rounds::{expected, hold, is_whole};
+use crate::uploads::{are_small, upload};
 use gs_chronicle::Entry;
 use gs_core::Refusal;
 use gs_shared::{
@@ -36,6 +37,8 @@ enum Task {
     Rounds,
     /// To count in a graph of all.
     Counts,
+    /// An upload of one long list.
+    Uploads,
 }
 
 /// A seat, the number of a round, and what was wrong of it.
@@ -95,6 +98,12 @@ fn work_rounds<C: CountedLedger, T: CountedLedger, B: Room, R: Wait>(
     fault
 }
 
+/// The fault of a task without rounds.
+fn in_no_round(seat: u16, wrong: Result<Option<&'static str>, Refusal>) -> Option<Fault> {
+    let part = wrong.unwrap_or(Some("a refusal"))?;
+    Some((seat, 0, part))
+}
+
 /// A task, and the first fault.
 fn work<C: CountedLedger, T: CountedLedger, B: Room, R: Wait>(
     rt: &R,
@@ -106,10 +115,8 @@ fn work<C: CountedLedger, T: CountedLedger, B: Room, R: Wait>(
     let mut pass = pass;
     let fault = match task {
         Task::Rounds => work_rounds(rt, alloc, store, &mut pass),
-        Task::Counts => {
-            let wrong = count(rt, alloc, store, &mut pass).unwrap_or(Some("a refusal"));
-            wrong.map(|part| (pass.seat(), 0, part))
-        }
+        Task::Counts => in_no_round(pass.seat(), count(rt, alloc, store, &mut pass)),
+        Task::Uploads => in_no_round(pass.seat(), upload(rt, alloc, store, &mut pass)),
     };
     (pass, fault)
 }
@@ -329,5 +336,16 @@ fn four_threads_lose_no_number(rt: HostRuntime) -> Result<(), Fail> {
     drop(ended);
     assert_eq!(rt; fault, None);
     assert_eq!(rt; wrong?, None);
+    Ok(())
+}
+
+#[test]
+fn the_page_keeps_long_lists_by_small_forms(rt: HostRuntime) -> Result<(), Fail> {
+    let left = worked(&rt, rt.alloc(), Task::Uploads);
+    let (ended, fault) = left.expect(&rt, "memory and threads");
+    let are_small = are_small(rt.alloc(), ended.audited.page().entries());
+    drop(ended);
+    assert_eq!(rt; fault, None);
+    assert_eq!(rt; are_small?, true);
     Ok(())
 }

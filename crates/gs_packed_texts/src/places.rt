@@ -1,5 +1,5 @@
 //! How a text is packed after others.
-ghost use Rattle.std.specs.Prelude.{◌≡◌, ◌≤◌, length, take};
+ghost use Rattle.std.specs.Prelude.{◌≡◌, ◌≤◌, true, length, take, drop};
 ghost use Rattle.gs_packed_texts.specs.Kept.{IsWindowIn, IsWindowPlace};
 
 use crate::windows::{EARLIER, LAST, WHOLE, Window, bytes_at, is_text};
@@ -15,6 +15,36 @@ pub struct Place {
     pub front: usize,
 }
 
+/// Whether both have the same eight bytes from a place on. They are compared at once.
+fn is_same_group(a: &[u8], b: &[u8], at: usize) -> bool
+    requires a { at ≤ length a.now }
+    requires b { at ≤ length b.now }
+    ensures { result ≡ true → take 8 (drop at a.now) ≡ take 8 (drop at b.now) }
+{
+    match (
+        a[at..].split_first_chunk::<8>(),
+        b[at..].split_first_chunk::<8>(),
+    ) {
+        (Some((x, _)), Some((y, _))) => x == y,
+        _ => false,
+    }
+}
+
+/// How many bytes both begin with, counted by whole groups of eight, at most this many.
+fn same_groups(a: &[u8], b: &[u8], most: usize) -> usize
+    requires a { most ≤ length a.now }
+    requires b { most ≤ length b.now }
+    ensures same { take result a.now ≡ take result b.now }
+    ensures most { result ≤ most }
+{
+    for group in 0..most / 8 {
+        if !is_same_group(a, b, 8 * group) {
+            return 8 * group;
+        }
+    }
+    most / 8 * 8
+}
+
 /// How many bytes both begin with, at most `MAX_FRONT`.
 fn common_front(anchor: &[u8], text: &[u8]) -> usize
     ensures front { take result anchor.now ≡ take result text.now }
@@ -23,7 +53,7 @@ fn common_front(anchor: &[u8], text: &[u8]) -> usize
     ensures few { result ≤ 252 }
 {
     let most = anchor.len().min(text.len()).min(MAX_FRONT);
-    for count in 0..most {
+    for count in same_groups(anchor, text, most)..most {
         if anchor[count] != text[count] {
             return count;
         }
