@@ -420,26 +420,30 @@ GROWTH = 100_000_000
 LONG = "a" * 65_000
 DEAR = [
     ("an update of 965 kB, each word of its triples a prefix of 65,000 bytes", "PATCH", "application/sparql-update",
-     f"PREFIX p: <http://e/{LONG}> INSERT DATA {{ p: p: {','.join(['p:'] * 300_000)} }}", 1.0, 503),
-    ("a body of 265 kB, a subject of 65,000 bytes with 100,000 objects", "PUT", "text/turtle",
-     f"<http://e/{LONG}> {P} {','.join(['1'] * 100_000)} .", 1.0, 503),
+     f"PREFIX p: <http://e/{LONG}> INSERT DATA {{ p: p: {','.join(['p:'] * 300_000)} }}", 1.0, 204, 2),
+    ("a body of 650 kB, a subject of 65,000 bytes with 100,000 objects", "PUT", "text/turtle",
+     f"<http://e/{LONG}> {P} {','.join(map(str, range(100_000)))} .", 1.0, 204, 100_000),
     ("a body of 165 kB, whose base of 65,000 bytes is set 12,500 times more", "PUT", "text/turtle",
-     f"BASE <http://e/{LONG}>" + " BASE <>" * 12_500, 1.0, 503),
+     f"BASE <http://e/{LONG}>" + " BASE <>" * 12_500, 1.0, 503, 1),
     ("an update of 415 kB, 50,000 of whose terms leave nearly all of its base out", "PATCH", "application/sparql-update",
-     f"BASE <http://e/{LONG}/z> INSERT DATA {{ <a:a> <a:b> {','.join(['<../y>'] * 50_000)} }}", 1.0, 204),
+     f"BASE <http://e/{LONG}/z> INSERT DATA {{ <a:a> <a:b> {','.join(['<../y>'] * 50_000)} }}", 1.0, 204, 2),
     ("an update of 1,041 kB, each word of its patterns a prefix of 65,000 bytes", "PATCH", "application/sparql-update",
-     f"PREFIX p: <http://e/{LONG}> " + ";".join([f"DELETE WHERE {{ {'p: p: p: . ' * 4}}}"] * 16_000), 1.0, 503),
+     f"PREFIX p: <http://e/{LONG}> " + ";".join([f"DELETE WHERE {{ {'p: p: p: . ' * 4}}}"] * 16_000), 1.0, 503, 1),
     ("a body of 2.1 MB, 200,000 objects by 200 prefixes of 5,000 bytes", "PUT", "text/turtle",
-     "".join(f"PREFIX p{k}: <http://e/{'a' * 5_000}{k}> " for k in range(200)) + f"<a:a> <a:b> {','.join(f'p{k % 200}:' for k in range(200_000))} .", 0.5, 503),
+     "".join(f"PREFIX p{k}: <http://e/{'a' * 5_000}{k}> " for k in range(200)) + f"<a:a> <a:b> {','.join(f'p{k % 200}:' for k in range(200_000))} .", 0.5, 204, 200),
     ("a body of 970 kB, whose every term is another one of 65,000 bytes by its prefix", "PUT", "text/turtle",
-     f"PREFIX p: <http://e/{LONG}> " + "".join(f"p:{3 * k} p:{3 * k + 1} p:{3 * k + 2} . " for k in range(35_000)), 1.0, 503),
+     f"PREFIX p: <http://e/{LONG}> " + "".join(f"p:{3 * k} p:{3 * k + 1} p:{3 * k + 2} . " for k in range(35_000)), 1.0, 503, 1),
+    ("an update of 1,040 kB, 86,000 times one triple of a prefix of 65,000 bytes", "PATCH", "application/sparql-update",
+     f"PREFIX p: <http://e/{LONG}> INSERT DATA {{ {'p: p: p: . ' * 86_000} }}", 1.0, 204, 2),
+    ("the same, deleted", "PATCH", "application/sparql-update",
+     f"PREFIX p: <http://e/{LONG}> INSERT DATA {{ p: p: p: }} ; DELETE DATA {{ {'p: p: p: . ' * 85_000} }}", 1.0, 204, 1),
 ]
 
 
 def dear_row(program, row):
     """How long it takes until such a text is answered, how long others wait, and how much the server grows; afterwards it serves as
     before."""
-    name, method, media, text, _, wanted = row
+    name, method, media, text, _, wanted, lines = row
     with Server(program, addresses=ADDRESSES) as server:
         client = Client(server)
         for target in ("one", "many"):
@@ -452,7 +456,6 @@ def dear_row(program, row):
             time.sleep(0.05)
         grown = server.resident_bytes() - before
         left = len(Client(server).lines("/graphs/many"))
-        lines = 1 if wanted == 503 else 2
         if status != wanted or left != lines:
             raise SystemExit(f"{name}: status {status}, {left} lines in place of {lines}")
         return taken, bystander.longest, grown

@@ -11,6 +11,8 @@ MOST_PATTERNS = 4
 # the bytes that the texts of triples, prefixes and bases may have, and for each byte of an update
 FIRST_BYTES = 16_777_216
 BYTES_FOR_ONE = 64
+# so many triples of a statement are known to their operation before it is over
+TOGETHER = 64
 
 BASE_CHARS = (
     "A-Za-z\u00c0-\u00d6\u00d8-\u00f6\u00f8-\u02ff\u0370-\u037d\u037f-\u1fff\u200c-\u200d\u2070-\u218f\u2c00-\u2fef"
@@ -180,6 +182,10 @@ def resolved(iri, base):
     return text + ("" if query is None else "?" + query) + ("" if fragment is None else "#" + fragment)
 
 
+def length(text):
+    return len(text.removeprefix("?").encode("utf-8"))
+
+
 class Reader:
     def __init__(self, text, base, request):
         self.tokens, self.ahead = tokens(text), None
@@ -187,6 +193,7 @@ class Reader:
         self.nodes, self.labels, self.old_labels = 0, {}, set()
         self.operations, self.last_end, self.offset = [], 0, 0
         self.form, self.triples, self.depth = "", [], 0
+        self.waiting, self.terms, self.known = 0, [], set()
         self.used, self.most = 0, FIRST_BYTES + BYTES_FOR_ONE * len(text.encode("utf-8", "surrogateescape"))
 
     # Tokens
@@ -267,7 +274,7 @@ class Reader:
 
     def count(self, *texts):
         """Counts the bytes of texts, of variables without their mark."""
-        self.used += sum(len(it.removeprefix("?").encode("utf-8")) for it in texts)
+        self.used += sum(map(length, texts))
         if self.used > self.most:
             raise TooMuch
 
@@ -275,14 +282,26 @@ class Reader:
         self.count(text)
         return text
 
-    def append(self, *triple):
+    def append(self, triple, counted):
+        """A triple more, of which these texts count until its operation knows them."""
         self.triples.append(" ".join(triple) + " .")
         if self.form == "where" and len(self.triples) > MOST_PATTERNS:
             raise NotServed
+        self.count(*counted)
+        self.terms += counted
+        self.waiting += 1
+        if self.waiting == TOGETHER:
+            self.settle()
+
+    def settle(self):
+        """The texts of the triples so far are known to their operation: each counts once, but for those of patterns."""
+        if self.form != "where":
+            self.used -= sum(map(length, self.terms)) - sum(map(length, set(self.terms) - self.known))
+            self.known |= set(self.terms)
+        self.waiting, self.terms = 0, []
 
     def state(self, *triple):
-        self.append(*triple)
-        self.count(*triple)
+        self.append(triple, list(triple))
 
     def deeper(self):
         self.depth += 1
@@ -312,14 +331,15 @@ class Reader:
             if self.form != "insert":
                 raise Fault
             cell = self.new_node()
+            value = self.object()
+            self.append((cell, f"<{RDF}first>", value), [value])
             if last:
-                self.append(last, f"<{RDF}rest>", cell)
-            self.append(cell, f"<{RDF}first>", self.counted(self.object()))
+                self.append((last, f"<{RDF}rest>", cell), [])
             first, last = first or cell, cell
         self.want(")")
         self.depth -= 1
         if last:
-            self.append(last, f"<{RDF}rest>", f"<{RDF}nil>")
+            self.append((last, f"<{RDF}rest>", f"<{RDF}nil>"), [])
         return first or f"<{RDF}nil>", first is not None
 
     def object(self):
@@ -378,12 +398,13 @@ class Reader:
     # Updates
 
     def block(self, form):
-        self.form, self.triples = form, []
+        self.form, self.triples, self.known = form, [], set()
         self.want("{")
         while not self.is_next("}"):
             if self.is_next("GRAPH"):
                 raise NotServed
             self.same_subject()
+            self.settle()
             if not self.is_next("}"):
                 self.want(".")
         self.take()
