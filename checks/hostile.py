@@ -422,7 +422,7 @@ DEAR = [
     ("an update of 965 kB, each word of its triples a prefix of 65,000 bytes", "PATCH", "application/sparql-update",
      f"PREFIX p: <http://e/{LONG}> INSERT DATA {{ p: p: {','.join(['p:'] * 300_000)} }}", 1.0, 204, 2),
     ("a body of 650 kB, a subject of 65,000 bytes with 100,000 objects", "PUT", "text/turtle",
-     f"<http://e/{LONG}> {P} {','.join(map(str, range(100_000)))} .", 1.0, 204, 100_000),
+     f"<http://e/{LONG}> {P} {','.join(map(str, range(100_000)))} .", 1.0, 204, None),
     ("a body of 165 kB, whose base of 65,000 bytes is set 12,500 times more", "PUT", "text/turtle",
      f"BASE <http://e/{LONG}>" + " BASE <>" * 12_500, 1.0, 503, 1),
     ("an update of 415 kB, 50,000 of whose terms leave nearly all of its base out", "PATCH", "application/sparql-update",
@@ -455,7 +455,8 @@ def dear_row(program, row):
             taken = time.perf_counter() - start
             time.sleep(0.05)
         grown = server.resident_bytes() - before
-        left = len(Client(server).lines("/graphs/many"))
+        # (where no number stands, so many lines would be gigabytes)
+        left = len(Client(server).lines("/graphs/many")) if lines else None
         if status != wanted or left != lines:
             raise SystemExit(f"{name}: status {status}, {left} lines in place of {lines}")
         return taken, bystander.longest, grown
