@@ -123,7 +123,7 @@ fn text_of(alloc: Global, front: &Front, rest: &Rest) -> Result<String, AllocErr
     let mut text = String::from_str(alloc, front.0)?;
     text.push_str("x".repeat(alloc, LETTERS)?.as_str())?;
     text.push_str(front.1)?;
-    for number in 100..100 + rest.1 {
+    for number in 100..rest.1.saturating_add(100) {
         push_piece(rest.0, number, &mut text)?;
     }
     text.push_str(" ".repeat(alloc, rest.2)?.as_str())?;
