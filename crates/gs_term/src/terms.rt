@@ -191,7 +191,7 @@ impl Clone for TermText {
     ghost is_clone = { λ s t. t ≡ s };
 
     fn clone(&self) -> Result<TermText, AllocError> {
-        let bytes = self.bytes.clone()?;
+        let bytes = Vec::from_slice(*self.bytes.allocator(), &self.bytes)?;
         Ok(TermText { bytes })
     }
 }
