@@ -1,15 +1,23 @@
 -- How much the texts of a request may take.
-use Rattle.std.specs.Prelude.{◌≡◌, ℕ, ◌+◌, ◌-◌, ◌*◌, ◌^◌, ◌≤◌, ◌<◌, min, Result, Ok, Err}
+use Rattle.std.specs.Prelude.{◌≡◌, ℕ, ◌+◌, ◌-◌, ◌*◌, ◌^◌, min, Bool, true, false, ◌&&◌, nat_le, Result, Ok, Err}
 use Rattle.gs_token_terms.specs.declared.budgets.Budget.{Budget}
 
 -- the most bytes that the texts of a request may have of which so many bytes were read: 16 MiB, and 64 for each of them
 abbrev pub most_after : ℕ → ℕ
 most_after n = min (16_777_216 + min (n * 64) (2 ^ 64 - 1)) (2 ^ 64 - 1)
 
+-- the most bytes that texts may have that were made, whether they are kept or not: 32 GiB more
+abbrev pub most_made : Budget → ℕ
+most_made b = min (b.most + 34_359_738_368) (2 ^ 64 - 1)
+
+-- whether so many bytes more may be made and kept
+abbrev pub may_count : Budget → ℕ → Bool
+may_count b n = nat_le (b.used + n) b.most && nat_le (b.made + n) (most_made b)
+
 -- so many bytes more were counted, or they are too many and were not
 abbrev pub CountsBytes : {E : Type 0} → Result (Unit {0}) E → Budget → Budget → ℕ → Type 0
-CountsBytes (Ok u) old new n = (new ≡ record old { used = old.used + n }) × (old.used + n ≤ old.most)
-CountsBytes (Err e) old new n = (new ≡ old) × (old.most < old.used + n)
+CountsBytes (Ok u) old new n = (new ≡ record old { used = old.used + n; made = old.made + n }) × (may_count old n ≡ true)
+CountsBytes (Err e) old new n = (new ≡ old) × (may_count old n ≡ false)
 
 -- of so many counted bytes so many are kept, at most all
 abbrev pub traded : Budget → ℕ → ℕ → Budget

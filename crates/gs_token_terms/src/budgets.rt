@@ -10,12 +10,16 @@ const FIRST_BYTES: u64 = 16_777_216;
 /// And for each byte that was read.
 const BYTES_FOR_ONE: u64 = 64;
 
+/// How many bytes more texts may have that were made, whether they are kept or not: 32 GiB. Each takes time.
+const BYTES_MADE: u64 = 34_359_738_368;
+
 /// How many bytes the texts have that a request was read into, and how many they may have. A prefix, or a
-/// subject with many objects, makes long texts of few bytes. Each copy counts, until it is traded for what
-/// a list keeps of it.
+/// subject with many objects, makes long texts of few bytes. Each copy counts among those that are used,
+/// until it is traded for what a list keeps of it, and among those that were made for ever.
 #[derive(Clone, Copy)]
 pub struct Budget {
     used: u64,
+    made: u64,
     most: u64,
 }
 
@@ -32,10 +36,11 @@ fn sum_within(a: u64, b: u64, most: u64) -> Option<u64>
 impl Budget {
     /// Nothing was read.
     pub fn new() -> Budget
-        ensures { result ≡ record { used = 0; most = most_after 0 } }
+        ensures { result ≡ record { used = 0; made = 0; most = most_after 0 } }
     {
         Budget {
             used: 0,
+            made: 0,
             most: FIRST_BYTES,
         }
     }
@@ -48,18 +53,23 @@ impl Budget {
         self.most = FIRST_BYTES.saturating_add(end.saturating_mul(BYTES_FOR_ONE));
     }
 
-    /// So many bytes more of texts. Where they are too many they are refused as for want of memory,
-    /// and not counted.
+    /// So many bytes more of texts. Where they are too many, or too many were made, they are refused as for
+    /// want of memory, and not counted.
     #[inline]
     pub fn count(&mut self, bytes: usize) -> Result<(), AllocError>
         ensures { CountsBytes result self.old self.new bytes }
     {
-        match sum_within(self.used, bytes as u64, self.most) {
-            None => Err(AllocError),
-            Some(used) => {
+        let most_made = self.most.saturating_add(BYTES_MADE);
+        match (
+            sum_within(self.used, bytes as u64, self.most),
+            sum_within(self.made, bytes as u64, most_made),
+        ) {
+            (Some(used), Some(made)) => {
                 self.used = used;
+                self.made = made;
                 Ok(())
             }
+            _ => Err(AllocError),
         }
     }
 
