@@ -3,6 +3,7 @@ ghost use Rattle.std.specs.Prelude.{◌≡◌, length};
 ghost use Rattle.std.specs.List.{sum};
 ghost use Rattle.gs_packed_texts.specs.Kept.{own_in};
 
+use crate::blocks::TextBlocks;
 use crate::readers::Texts;
 
 /// Packed texts after which no more come: what they are kept by, and nothing of what comes next.
@@ -49,6 +50,27 @@ impl ClosedTexts {
         ensures { left_of result ≡ closed_texts self.now }
     {
         Texts::new(&self.marks, &self.counts, &self.bytes)
+    }
+
+    /// Moves what is kept into spare blocks, where these are found. Takes no memory.
+    pub fn move_into(&mut self, blocks: &mut TextBlocks)
+        ensures { closed_texts self.new ≡ closed_texts self.old }
+    {
+        blocks.marks.take_in(&mut self.marks);
+        blocks.counts.take_in(&mut self.counts);
+        blocks.bytes.take_in(&mut self.bytes);
+    }
+
+    /// Leaves the blocks of texts that are of no more use.
+    pub fn leave_to(self, blocks: &mut TextBlocks) {
+        let ClosedTexts {
+            marks,
+            counts,
+            bytes,
+        } = self;
+        blocks.marks.give(marks);
+        blocks.counts.give(counts);
+        blocks.bytes.give(bytes);
     }
 
     /// For how many marks, counts and bytes there is room.

@@ -1,5 +1,7 @@
 //! Texts packed and read back, with the number of their own bytes as counted by hand. Each text has the
 //! memory of the third text before it: a row speaks of the first memory where its other texts are empty.
+use crate::blocks::TextBlocks;
+use crate::closed::ClosedTexts;
 use crate::readers::Texts;
 use crate::texts::PackedTexts;
 use std::alloc::{AllocError, Global};
@@ -259,5 +261,48 @@ fn closed_texts_give_their_room_back(rt: HostRuntime) -> Result<(), Fail> {
 #[test]
 fn long_texts_come_back(rt: HostRuntime) -> Result<(), Fail> {
     assert_eq!(rt; wrong_long_row(rt.alloc())?, None);
+    Ok(())
+}
+
+/// So many different texts of five bytes each, closed.
+fn closed(alloc: Global, count: usize) -> Result<ClosedTexts, AllocError> {
+    let mut packed = PackedTexts::new(alloc);
+    for number in 0..count {
+        let text = format!(in alloc; "\"{number:03}\"")?;
+        add(&mut packed, text.as_bytes())?;
+    }
+    Ok(packed.closed())
+}
+
+/// The rooms of 70 texts that are moved after 100 were left, and whether they are the same texts then. Where
+/// it is so asked, the blocks are given back before.
+fn moved(alloc: Global, cleared: bool) -> Result<([usize; 3], bool), AllocError> {
+    let mut blocks = TextBlocks::new(alloc);
+    closed(alloc, 100)?.leave_to(&mut blocks);
+    if cleared {
+        blocks.clear();
+    }
+    let mut kept = closed(alloc, 70)?;
+    kept.move_into(&mut blocks);
+    let mut left = kept.texts();
+    for number in 0..70usize {
+        let text = format!(in alloc; "\"{number:03}\"")?;
+        if !comes(&mut left, text.as_bytes()) {
+            return Ok((kept.rooms(), false));
+        }
+    }
+    let is_over = left.next().is_none();
+    Ok((kept.rooms(), is_over))
+}
+
+#[test]
+fn texts_move_into_the_blocks_that_others_left(rt: HostRuntime) -> Result<(), Fail> {
+    let own = closed(rt.alloc(), 70).expect(&rt, "memory").rooms();
+    let others = closed(rt.alloc(), 100).expect(&rt, "memory").rooms();
+    assert_eq!(rt;
+        moved(rt.alloc(), false).expect(&rt, "memory"),
+        (others, true)
+    );
+    assert_eq!(rt; moved(rt.alloc(), true).expect(&rt, "memory"), (own, true));
     Ok(())
 }

@@ -6,7 +6,7 @@ ghost use Rattle.gs_packed_triples.specs.Formed.{triples_unpacked, AreFormed};
 ghost use Rattle.gs_packed_triples.specs.Props.{IsText-prop};
 
 use crate::readers::UnpackedTriples;
-use gs_packed_texts::ClosedTexts;
+use gs_packed_texts::{ClosedTexts, TextBlocks};
 
 /// Packed triples after which no more come, in the order in which they came, with repeats.
 #[derive(Debug, Drop)]
@@ -46,6 +46,18 @@ impl ClosedTriples {
         ensures { result ≡ closed_triples_room self.now }
     {
         self.texts.capacity()
+    }
+
+    /// Moves what is kept into spare blocks, where these are found. Takes no memory.
+    pub fn move_into(&mut self, blocks: &mut TextBlocks)
+        ensures { closed_triples self.new ≡ closed_triples self.old }
+    {
+        self.texts.move_into(blocks);
+    }
+
+    /// Leaves the blocks of triples that are of no more use.
+    pub fn leave_to(self, blocks: &mut TextBlocks) {
+        self.texts.leave_to(blocks);
     }
 
     /// A reader of the triples, the first one first.

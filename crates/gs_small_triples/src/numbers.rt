@@ -2,6 +2,7 @@
 ghost use Rattle.std.specs.Prelude.{◌≡◌, ◌≤◌, ◌<◌, ◌^◌, [], ◌∷◌, ◌++◌, length, slice_get, Some, IfOk, OnOk};
 ghost use Rattle.gs_small_triples.specs.Kept.{numbers_in, width, IsBelow};
 
+use crate::blocks::FormBlocks;
 use gs_triple_lists::TripleNumbers;
 use std::alloc::{AllocError, Global};
 
@@ -95,6 +96,26 @@ impl Numbers {
                 object: u32::from(kept[place].object),
             },
             Numbers::Whole(kept) => kept[place],
+        }
+    }
+
+    /// Moves numbers of one byte or of two into a spare block, where one is found. Takes no memory.
+    pub fn move_into(&mut self, blocks: &mut FormBlocks)
+        ensures { numbers_in self.new ≡ numbers_in self.old }
+    {
+        match self {
+            Numbers::Bytes(kept) => blocks.bytes.take_in(kept),
+            Numbers::Words(kept) => blocks.words.take_in(kept),
+            Numbers::Whole(_) => {}
+        }
+    }
+
+    /// Leaves the block of numbers that are of no more use.
+    pub fn leave_to(self, blocks: &mut FormBlocks) {
+        match self {
+            Numbers::Bytes(kept) => blocks.bytes.give(kept),
+            Numbers::Words(kept) => blocks.words.give(kept),
+            Numbers::Whole(_) => {}
         }
     }
 

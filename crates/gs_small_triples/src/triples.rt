@@ -9,6 +9,7 @@ ghost use Rattle.gs_packed_texts.specs.Closed.{closed_texts};
 ghost use Rattle.gs_small_triples.specs.Kept.{numbers_in, terms_of, terms_split, AreSplit};
 ghost use Rattle.gs_small_triples.specs.Props.{IsText-prop};
 
+use crate::blocks::FormBlocks;
 use crate::numbers::Numbers;
 use crate::packings::Packing;
 use gs_packed_texts::{ClosedTexts, SplitText};
@@ -75,6 +76,21 @@ impl SmallTriples {
         ensures { result ≡ length (small_triples self.now) }
     {
         self.numbers.len()
+    }
+
+    /// Moves what is kept into spare blocks, where these are found. Takes no memory.
+    pub fn move_into(&mut self, blocks: &mut FormBlocks)
+        ensures { small_triples self.new ≡ small_triples self.old }
+    {
+        self.texts.move_into(&mut blocks.texts);
+        self.numbers.move_into(blocks);
+    }
+
+    /// Leaves the blocks of a small form that is of no more use.
+    pub fn leave_to(self, blocks: &mut FormBlocks) {
+        let SmallTriples { texts, numbers } = self;
+        texts.leave_to(&mut blocks.texts);
+        numbers.leave_to(blocks);
     }
 
     /// The texts of the terms, by number, as they stand where they are packed.

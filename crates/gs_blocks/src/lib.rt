@@ -1,0 +1,8 @@
+//! Blocks of memory that are used again.
+#![tactic(auto)]
+
+mod blocks;
+#[cfg(test)]
+mod tests;
+
+pub use blocks::SpareBlocks;
