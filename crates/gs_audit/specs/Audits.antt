@@ -7,7 +7,7 @@ use Rattle.gs_audit.specs.declared.audited.Audited.{Audited}
 use Rattle.gs_audit.specs.Decisions.{decided_by}
 use Rattle.gs_audit.specs.Slots.{slot_count}
 
--- how many triples were staged at each seat since its upload was opened, with repeats; 0 where none is open
+-- as how many triples counts what was staged at each seat since its upload was opened, with repeats; 0 where none is open
 abbrev pub staged_of : {entries triples : ℕ} → Audited entries triples → List ℕ
 staged_of a = map slot_count a.slots.items
 

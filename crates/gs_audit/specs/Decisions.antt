@@ -20,7 +20,7 @@ status_in (Status s name number) = s
 status_in (Pinned s number) = s
 status_in a = 0
 
--- how many triples and patterns a decided call's request has, at a seat where n triples are staged
+-- as how many triples a decided call's request counts, at a seat where what is staged counts as n
 abbrev pub triples_by : ℕ → Action → ℕ
 triples_by n Commit = n
 triples_by n (CommitPatch ops) = ops_size ops.items

@@ -1,5 +1,5 @@
 -- What a seat has open, and how it follows the seat's phase.
-use Rattle.std.specs.Prelude.{◌≡◌, ℕ, ◌+◌, List, [], length, Option, Some, None}
+use Rattle.std.specs.Prelude.{◌≡◌, ℕ, ◌+◌, List, [], Option, Some, None}
 use Rattle.gs_model.specs.Triples.{RdfTriple}
 use Rattle.gs_event.specs.declared.events.Action.{Action}
 use Rattle.gs_event.specs.declared.events.Action.TheVariants.{Stage, Commit, Cancel}
@@ -10,6 +10,7 @@ use Rattle.gs_event.specs.declared.answers.Answer.TheVariants.{Staged, Status, C
 use Rattle.gs_event.specs.Phases.{Idle, Writing, Patching, Reading, phase_after}
 use Rattle.gs_event.specs.Views.{SeatView}
 use Rattle.gs_chronicle.specs.declared.requests.Request.{Request}
+use Rattle.gs_chronicle.specs.Sizes.{stopped_count, triples_size}
 use Rattle.gs_chronicle.specs.OpenUploads.{triples_so_far, graph_so_far, HasRoomToStage}
 use Rattle.gs_chronicle.specs.Requests.{call_of}
 use Rattle.gs_chronicle.specs.Pages.{Decided}
@@ -30,19 +31,19 @@ slot_phase Empty = Idle
 slot_phase (Upload u) = Writing u.kind u.request (graph_so_far u) u.since
 slot_phase (Patch t r since) = Patching t r since
 
--- how many triples were staged, with repeats
+-- as how many triples what was staged counts, with repeats
 abbrev pub slot_count : Slot → ℕ
 slot_count Empty = 0
-slot_count (Upload u) = length (triples_so_far u)
+slot_count (Upload u) = triples_size (triples_so_far u)
 slot_count (Patch t r since) = 0
 
 -- a kept phase after an answer
 abbrev pub open_after : SeatView → Action → Answer → SeatView
 open_after p action a = open_of (phase_after (λ c. []) (λ left n. left) p action a)
 
--- how many triples are staged after an answer, at a slot with this phase, where it was n
+-- as how many triples what is staged counts after an answer, at a slot with this phase, where it was n
 abbrev pub count_after : SeatView → ℕ → Action → Answer → ℕ
-count_after (Writing k r g since) n (Stage ts) Staged = n + length ts.items
+count_after (Writing k r g since) n (Stage ts) Staged = stopped_count (n + triples_size ts.items)
 count_after (Writing k r g since) n Commit (Status s name number) = 0
 count_after (Writing k r g since) n Cancel Cancelled = 0
 count_after p n action a = n

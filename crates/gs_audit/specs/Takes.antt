@@ -23,12 +23,12 @@ abbrev pub kept_phase : SeatView → Event → Answer → SeatView
 kept_phase p (Reclaim n) a = p
 kept_phase p (At s action) a = open_after p action a
 
--- how many triples are staged then, where it was k
+-- as how many triples counts what is staged then, where it was k
 abbrev pub kept_count : SeatView → ℕ → Event → Answer → ℕ
 kept_count p k (Reclaim n) a = k
 kept_count p k (At s action) a = count_after p k action a
 
--- what the event decided, where k triples are staged
+-- what the event decided, where what is staged counts as k triples
 abbrev pub kept_call : SeatView → ℕ → Event → Answer → Option Decided
 kept_call p k (Reclaim n) a = None
 kept_call p k (At s action) a = decided_at s p k action a

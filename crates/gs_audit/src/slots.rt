@@ -1,6 +1,7 @@
 //! What each seat has open.
 ghost use Rattle.std.specs.Prelude.{◌≡◌, true, false, IfSome};
 ghost use Rattle.gs_small_triples.specs.Small.{small_triples};
+ghost use Rattle.gs_chronicle.specs.Sizes.{triples_size};
 ghost use Rattle.gs_audit.specs.Slots.{staged_by, slot_phase, slot_count, CanStage, CanTake, MayLack, NotesAction};
 
 use gs_chronicle::{OpenUpload, Request};
@@ -22,10 +23,11 @@ pub enum Slot {
 }
 
 impl Slot {
-    /// Makes room for what the event will stage, with its small form where there is one. False where
-    /// that was refused.
-    pub fn make_room(&mut self, event: &Event, small: Option<SmallTriples>) -> bool
-        requires { IfSome small (λ s. small_triples s ≡ staged_by event.now) }
+    /// Makes room for what the event will stage, which counts as so many triples, with its small form where
+    /// there is one. False where that was refused.
+    pub fn make_room(&mut self, event: &Event, small: Option<SmallTriples>, count: usize) -> bool
+        requires form { IfSome small (λ s. small_triples s ≡ staged_by event.now) }
+        requires count { count ≡ triples_size (staged_by event.now) }
         ensures phase { slot_phase self.new ≡ slot_phase self.old }
         ensures count { slot_count self.new ≡ slot_count self.old }
         ensures room { result ≡ true → CanTake self.new event.now }
@@ -37,7 +39,7 @@ impl Slot {
         let Slot::Upload(upload) = self else {
             return true;
         };
-        upload.make_room(list, small)
+        upload.make_room(list, small, count)
     }
 
     /// Takes note of an answer to an action, of which it takes what a page stores. What the call decided,

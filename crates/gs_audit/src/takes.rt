@@ -1,6 +1,7 @@
 //! One event on a store, on what its seats have open, and on a page.
 ghost use Rattle.std.specs.Prelude.{◌≡◌, IfSome};
 ghost use Rattle.gs_small_triples.specs.Small.{small_triples};
+ghost use Rattle.gs_chronicle.specs.Sizes.{triples_size};
 ghost use Rattle.gs_chronicle.specs.Views.{page_of};
 ghost use Rattle.gs_audit.specs.Decisions.{page_by};
 ghost use Rattle.gs_audit.specs.Slots.{staged_by, slot_phase, slot_count, CanTake};
@@ -14,7 +15,8 @@ use gs_model::Refusal;
 use gs_small_triples::SmallTriples;
 use std::alloc::Global;
 
-/// Takes an event, with the small form of a list that it stages, if there is one.
+/// Takes an event, with the small form of a list that it stages, if there is one. The list counts as so
+/// many triples.
 pub fn take<const ENTRIES: usize, const TRIPLES: usize>(
     alloc: Global,
     store: &mut Store,
@@ -22,9 +24,11 @@ pub fn take<const ENTRIES: usize, const TRIPLES: usize>(
     page: &mut Page<ENTRIES, TRIPLES>,
     event: &mut Event,
     small: Option<SmallTriples>,
+    count: usize,
 ) -> Answer
     requires seats { FollowSeats store.old slots.old.items }
     requires small { IfSome small (λ s. small_triples s ≡ staged_by event.old) }
+    requires count { count ≡ triples_size (staged_by event.old) }
     ensures { TakesEvent ENTRIES TRIPLES store.old slots.old.items (page_of page.old) event.old
         result store.new slots.new.items (page_of page.new) }
 {
@@ -32,7 +36,7 @@ pub fn take<const ENTRIES: usize, const TRIPLES: usize>(
         return store.step(event);
     };
     match slots.get_mut(*seat as usize) {
-        Some(slot) => take_at(alloc, store, slot, page, event, small),
+        Some(slot) => take_at(alloc, store, slot, page, event, small, count),
         None => store.step(event),
     }
 }
@@ -45,8 +49,10 @@ fn take_at<const ENTRIES: usize, const TRIPLES: usize>(
     page: &mut Page<ENTRIES, TRIPLES>,
     event: &mut Event,
     small: Option<SmallTriples>,
+    count: usize,
 ) -> Answer
-    requires { IfSome small (λ s. small_triples s ≡ staged_by event.old) }
+    requires small { IfSome small (λ s. small_triples s ≡ staged_by event.old) }
+    requires count { count ≡ triples_size (staged_by event.old) }
     ensures steps { StepsOrLacks store.old (slot_phase slot.old) event.old result store.new }
     ensures phase { slot_phase slot.new ≡ kept_phase (slot_phase slot.old) event.old result }
     ensures count { slot_count slot.new
@@ -54,7 +60,7 @@ fn take_at<const ENTRIES: usize, const TRIPLES: usize>(
     ensures page { page_of page.new ≡ page_by ENTRIES TRIPLES (page_of page.old)
         (kept_call (slot_phase slot.old) (slot_count slot.old) event.old result) }
 {
-    if !slot.make_room(event, small) {
+    if !slot.make_room(event, small, count) {
         return Answer::Refused(Refusal::NoMemory);
     }
     let answer = store.step(event);

@@ -1,6 +1,6 @@
-//! Tests of a store with its page: worked rows on a page of four entries and six triples, the entries of
-//! questions and reads of a graph and of the whole dataset and of writes on condition, and what a refused
-//! request for memory leaves.
+//! Tests of a store with its page: worked rows on a page of four entries and six triples, as how many
+//! triples long texts count, the entries of questions and reads of a graph and of the whole dataset and of
+//! writes on condition, and what a refused request for memory leaves.
 #![tactic(auto)]
 
 #[cfg(test)]
@@ -11,6 +11,8 @@ mod refusals;
 mod rows;
 #[cfg(test)]
 mod scopes;
+#[cfg(test)]
+mod sizes;
 #[cfg(test)]
 mod stores;
 #[cfg(test)]

@@ -1,6 +1,6 @@
 //! A store with its page, where a request for memory is refused. With memory this shows the usual
 //! answers; `rt try --test --fail-alloc N` refuses the request of that number.
-use crate::stores::{Wide, cats, numbered, triples, wide};
+use crate::stores::{Wide, cats, numbered, staged_size, triples, wide};
 use crate::uploads::is_stored;
 use gs_core::{Action, Answer, Event, UploadKind};
 use gs_event::Scope;
@@ -43,12 +43,14 @@ fn stage(alloc: Global, store: &mut Wide, count: u8) -> Result<Answer, Refusal> 
 fn stage_small(alloc: Global, store: &mut Wide, list: TripleList) -> Answer {
     let small = SmallTriples::of(alloc, &list).ok();
     let mut event = Event::Seat(0, Action::Stage(list));
-    let answer = store.event_with(&mut event, small);
+    let size = staged_size(&event);
+    let answer = store.event_with(&mut event, small, size);
     if !wants_memory(&answer) {
         return answer;
     }
     drop(answer);
-    store.event_with(&mut event, None)
+    let size = staged_size(&event);
+    store.event_with(&mut event, None, size)
 }
 
 /// The same with the commit.

@@ -112,10 +112,10 @@ fn wrong_row(alloc: Global) -> Result<Option<&'static str>, Refusal> {
     Ok(None)
 }
 
-/// How many triples the last entry of a page counts.
+/// As how many triples the last entry of a page counts.
 fn last_triples(store: &Small) -> Option<usize> {
     match store.page().entries().last() {
-        Some(entry) => entry.request().triples(),
+        Some(entry) => Some(entry.request().triples()),
         None => None,
     }
 }
@@ -148,16 +148,16 @@ fn stage_four(alloc: Global, store: &mut Wide) -> Result<(), Refusal> {
     Ok(())
 }
 
-/// How many triples the last entry of a page has, as it gives them and as they are counted.
-fn last_counts(alloc: Global, store: &Wide) -> Result<(usize, Option<usize>), Refusal> {
+/// How many triples the last entry of a page gives, and as how many it counts.
+fn last_counts(alloc: Global, store: &Wide) -> Result<(usize, usize), Refusal> {
     match store.page().entries().last() {
         Some(entry) => match entry.request() {
             Request::Upload(upload) => {
                 Ok((upload.to_vec(alloc)?.len(), entry.request().triples()))
             }
-            _ => Ok((0, None)),
+            _ => Ok((0, 0)),
         },
-        None => Ok((0, None)),
+        None => Ok((0, 0)),
     }
 }
 
@@ -178,7 +178,7 @@ fn wrong_of_many(alloc: Global, store: &mut Wide) -> Result<Option<&'static str>
     if given != 1_200 {
         return Ok(Some("the triples that are given"));
     }
-    let are_all = counted == Some(1_200);
+    let are_all = counted == 1_200;
     Ok(if are_all { None } else { Some("their count") })
 }
 

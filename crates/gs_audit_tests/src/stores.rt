@@ -1,5 +1,10 @@
 //! Small stores with a page of four entries and six triples, and what is put into them.
+ghost use Rattle.std.specs.Prelude.{◌≡◌};
+ghost use Rattle.gs_chronicle.specs.Sizes.{triples_size};
+ghost use Rattle.gs_audit.specs.Slots.{staged_by};
+
 use gs_audit::Audited;
+use gs_chronicle::list_size;
 use gs_core::{Action, Answer, Event, UploadKind, is_base};
 use gs_model::Refusal;
 use gs_term::{GraphName, Target, TermText, Triple};
@@ -30,7 +35,30 @@ pub fn wide(alloc: Global) -> Result<Wide, Refusal> {
     Audited::new(alloc, 2, base)
 }
 
-/// The triple whose object has this number.
+/// A store whose page takes four entries with 102 triples in all.
+pub type Counted = Audited<4, 102>;
+
+/// A new store of that kind with two seats.
+pub fn counted(alloc: Global) -> Result<Counted, Refusal> {
+    let base = "http://localhost";
+    if !is_base(base) {
+        return Err(Refusal::Syntax(0));
+    }
+    Audited::new(alloc, 2, base)
+}
+
+/// As how many triples the list counts that an event stages. 0 for another event.
+pub fn staged_size(event: &Event) -> usize
+    ensures { result ≡ triples_size (staged_by event.now) }
+{
+    match event {
+        Event::Seat(_, Action::Stage(list)) => list_size(list),
+        _ => 0,
+    }
+}
+
+/// The triple whose object has this number. With a number below 10 its texts have 12, 12 and 6 bytes, so it
+/// counts as one.
 fn triple(alloc: Global, number: u8) -> Result<Triple, Refusal> {
     let subject = TermText::iri(alloc, "http://e/s")?;
     let predicate = TermText::iri(alloc, "http://e/p")?;
@@ -51,7 +79,8 @@ pub fn triples(alloc: Global, count: u8) -> Result<TripleList, Refusal> {
 }
 
 /// The triple of a number: its subject is an IRI of its own and its object a literal. Each third triple is
-/// the first one again.
+/// the first one again. A number of one to three digits stands in two texts, and the three have 34 bytes
+/// beside: 36 to 40 in all, so it counts as two.
 fn numbered_triple(alloc: Global, number: usize) -> Result<Triple, Refusal> {
     let number = if number % 3 == 2 { 0 } else { number };
     let name = format!(in alloc; "http://e/{number}")?;
@@ -71,6 +100,19 @@ pub fn numbered(alloc: Global, first: usize, count: usize) -> Result<Vec<Triple>
         list.push(numbered_triple(alloc, number)?)?;
     }
     Ok(list)
+}
+
+/// A triple whose object is a literal of so many letters. Its texts have 26 bytes more: 12 for each of the
+/// two IRIs, and two quotes.
+pub fn lettered_triple(alloc: Global, letters: usize) -> Result<Triple, Refusal> {
+    let subject = TermText::iri(alloc, "http://e/s")?;
+    let predicate = TermText::iri(alloc, "http://e/p")?;
+    let text = "x".repeat(alloc, letters)?;
+    let object = TermText::literal(alloc, text.as_str(), None, None)?;
+    if !subject.is_subject() || !predicate.is_iri() {
+        return Err(Refusal::Syntax(0));
+    }
+    Ok(Triple::new(subject, predicate, object))
 }
 
 /// The named graph that rows write.

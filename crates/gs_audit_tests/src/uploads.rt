@@ -1,6 +1,6 @@
 //! Uploads by the lengths of their lists, and what the page has of them. Lists are staged as the lock does
 //! it, with their small forms, or without, as where memory was refused for a small form.
-use crate::stores::{Wide, cats, numbered, wide};
+use crate::stores::{Wide, cats, numbered, staged_size, wide};
 use gs_chronicle::{Request, Upload};
 use gs_core::{Action, Answer, Event, UploadKind};
 use gs_model::Refusal;
@@ -73,7 +73,8 @@ fn is_staged_small(alloc: Global, store: &mut Wide, list: TripleList) -> bool {
     let count = list.len();
     let small = SmallTriples::of(alloc, &list).ok();
     let mut event = Event::Seat(0, Action::Stage(list));
-    let answer = store.event_with(&mut event, small);
+    let size = staged_size(&event);
+    let answer = store.event_with(&mut event, small, size);
     let is_right = matches!(answer, Answer::Staged) && has_list(&event, count);
     drop(answer);
     drop(event);
@@ -131,14 +132,15 @@ fn last_upload(store: &Wide) -> Option<&Upload> {
     }
 }
 
-/// Whether the last upload of a page has just the triples of lists of these lengths, in their order.
+/// Whether the last upload of a page has just the triples of lists of these lengths, in their order. Each of
+/// these triples counts as two.
 pub fn is_stored(alloc: Global, store: &Wide, counts: &[usize]) -> Result<bool, Refusal> {
     let Some(upload) = last_upload(store) else {
         return Ok(false);
     };
     let wanted = numbered(alloc, 0, sum_of(counts))?;
     let stored = upload.to_vec(alloc)?;
-    Ok(stored.as_slice() == wanted.as_slice() && upload.count() == wanted.len())
+    Ok(stored.as_slice() == wanted.as_slice() && upload.count() == wanted.len().saturating_mul(2))
 }
 
 /// Whether the last upload of a page keeps lists in these numbers. They are counted in what is written of it

@@ -1,3 +1,5 @@
-pub mod UploadLemmas
+pub mod ListLemmas
 pub mod PageLemmas
 pub mod ReplayLemmas
+pub mod SizeLemmas
+pub mod UploadLemmas

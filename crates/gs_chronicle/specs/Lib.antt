@@ -1,4 +1,4 @@
--- Read in this order: how many triples operations have, which triples kept lists have, what an upload holds, and an open one;
+-- Read in this order: as how many triples a page counts what it stores, which triples kept lists have, what an upload holds, and an open one;
 -- the kinds of calls, what they asked and how a page keeps them; what an entry and a page show; and how a page replays.
 pub mod Sizes
 pub mod KeptLists

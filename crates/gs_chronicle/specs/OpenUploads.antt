@@ -1,10 +1,11 @@
 -- What was staged so far to an open upload.
-use Rattle.std.specs.Prelude.{◌≡◌, ℕ, ◌+◌, ◌^◌, ◌<◌, ◌≤◌, Bool, ◌==◌, ◌&&◌, ◌||◌, nat_lt, nat_le, List, ◌++◌, length, min, vec_len, vec_capacity, MatchOption}
+use Rattle.std.specs.Prelude.{◌≡◌, ℕ, ◌+◌, ◌≤◌, Bool, ◌==◌, ◌&&◌, ◌||◌, nat_lt, nat_le, List, ◌++◌, length, min, vec_len, vec_capacity, MatchOption}
 use Rattle.gs_model.specs.Triples.{RdfTriple}
 use Rattle.gs_model.specs.Graphs.{Graph, graph_of}
 use Rattle.gs_packed_triples.specs.Triples.{packed_triples, HasRoomFor}
 use Rattle.gs_small_triples.specs.Small.{small_triples}
 use Rattle.gs_chronicle.specs.KeptLists.{all_triples}
+use Rattle.gs_chronicle.specs.Sizes.{triples_size}
 use Rattle.gs_chronicle.specs.declared.open_uploads.OpenUpload.{OpenUpload}
 
 -- the triples that were staged so far, in the order in which they came, with repeats
@@ -24,9 +25,9 @@ keeps_form before apart count = (before == 0 && nat_lt 0 count) || (nat_le 32 co
 abbrev pub HasPlace : OpenUpload → Type 0
 HasPlace u = vec_len u.lists + min (length (packed_triples u.gathered)) 1 + 1 ≤ vec_capacity u.lists
 
--- There is room for a list: a number for all triples, a place for the list after what is gathered, and either its small form
--- or room where it is gathered.
+-- There is room for a list: as how many triples it counts is noted, there is a place for it after what is gathered, and
+-- either its small form or room where it is gathered.
 pub record HasRoomToStage (u : OpenUpload) (ts : List RdfTriple) : Type 0 where
-  pub count : u.count + length ts < 2 ^ 64
+  pub count : u.next_count ≡ triples_size ts
   pub place : HasPlace u
   pub list : MatchOption u.next (HasRoomFor u.gathered ts) (λ s. small_triples s ≡ ts)

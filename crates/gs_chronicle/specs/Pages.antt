@@ -3,8 +3,8 @@ use Rattle.std.specs.Prelude.{◌≡◌, ℕ, ◌+◌, ◌-◌, ◌^◌, min, Li
 use Rattle.std.specs.List.{sum_by, range_with_len}
 use Rattle.gs_event.specs.Conditions.{Asked}
 
--- one call that was decided: by which seat, what the abstract store was asked and on which condition, how many triples and
--- patterns the request has, with repeats, and its status
+-- one call that was decided: by which seat, what the abstract store was asked and on which condition, as how many
+-- triples the request counts (`Sizes`), with repeats, and its status
 pub record Decided : Type 0 where
   pub seat : ℕ
   pub asked : Asked
@@ -25,7 +25,7 @@ pub record PageView : Type 0 where
 abbrev pub fresh_page : PageView
 fresh_page = record { number = 0; rows = [] }
 
--- how many triples and patterns the rows have
+-- as how many triples the rows count
 abbrev pub stored_in : List Row → ℕ
 stored_in rows = sum_by (λ r. r.call.triples) rows
 
@@ -45,8 +45,8 @@ with_row p d = record { number = p.number; rows = p.rows ++ record { number = le
 abbrev pub has_room : ℕ → ℕ → PageView → Decided → Bool
 has_room most_rows most_triples p d = nat_lt (length p.rows) most_rows && nat_le (stored_in p.rows + d.triples) most_triples
 
--- The page after a call: where it has no room, it is turned first. A call with more triples than a page holds is not
--- stored, and turns the page.
+-- The page after a call: where it has no room, it is turned first. A call that counts as more triples than a page holds is
+-- not stored, and turns the page.
 abbrev pub page_after : ℕ → ℕ → PageView → Decided → PageView
 page_after most_rows most_triples p d =
     if nat_lt most_triples d.triples

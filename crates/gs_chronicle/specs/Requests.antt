@@ -1,11 +1,11 @@
 -- What a stored request asked for.
-use Rattle.std.specs.Prelude.{ℕ, length, None}
+use Rattle.std.specs.Prelude.{ℕ, None}
 use Rattle.gs_event.specs.Operations.{Patches, Deletes, Looks, Reads}
 use Rattle.gs_event.specs.Conditions.{Asked, asked_since}
 use Rattle.gs_event.specs.Phases.{write_of}
 use Rattle.gs_chronicle.specs.declared.requests.Request.{Request}
 use Rattle.gs_chronicle.specs.declared.requests.Request.TheVariants.{Upload, Patch, Delete, Head, Pin}
-use Rattle.gs_chronicle.specs.Sizes.{ops_size}
+use Rattle.gs_chronicle.specs.Sizes.{triples_size, ops_size}
 use Rattle.gs_chronicle.specs.Uploads.{staged_triples, staged_graph}
 use Rattle.gs_chronicle.specs.Pages.{Decided}
 
@@ -17,9 +17,9 @@ asked_in (Delete t since) = asked_since since (Deletes t)
 asked_in (Head c) = asked_since None (Looks c)
 asked_in (Pin c) = asked_since None (Reads c)
 
--- how many triples and patterns the request has, with repeats
+-- as how many triples the request counts, with repeats
 abbrev pub request_size : Request → ℕ
-request_size (Upload u) = length (staged_triples u)
+request_size (Upload u) = triples_size (staged_triples u)
 request_size (Patch t ops since) = ops_size ops.items
 request_size (Delete t since) = 0
 request_size (Head c) = 0

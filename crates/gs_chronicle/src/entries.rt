@@ -4,6 +4,7 @@ ghost use Rattle.gs_chronicle.specs.Requests.{call_of};
 ghost use Rattle.gs_chronicle.specs.Rows.{row_of};
 
 use crate::requests::Request;
+use gs_small_triples::FormBlocks;
 
 /// A call that a store decided, under its number in the page.
 #[derive(Debug, Drop)]
@@ -25,6 +26,11 @@ impl Entry {
             request,
             status,
         }
+    }
+
+    /// Leaves the blocks of an entry that is of no more use.
+    pub(crate) fn leave_to(self, blocks: &mut FormBlocks) {
+        self.request.leave_to(blocks);
     }
 
     /// How many entries stand before it in its page.

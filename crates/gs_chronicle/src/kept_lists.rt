@@ -4,7 +4,7 @@ ghost use Rattle.gs_packed_triples.specs.Triples.{packed_triples, triples_left};
 ghost use Rattle.gs_chronicle.specs.KeptLists.{kept_triples, all_triples};
 
 use gs_packed_triples::{ClosedTriples, PackedTriples, UnpackedTriples};
-use gs_small_triples::SmallTriples;
+use gs_small_triples::{FormBlocks, SmallTriples};
 use gs_term::Triple;
 use std::alloc::{AllocError, Global};
 
@@ -39,6 +39,24 @@ impl KeptList {
         match self {
             KeptList::Small(small) => triples.append(&mut small.to_vec(alloc)?),
             KeptList::Gathered(gathered) => add_left(alloc, gathered.triples(), triples),
+        }
+    }
+
+    /// Moves what is kept into spare blocks, where these are found. Takes no memory.
+    pub(crate) fn move_into(&mut self, blocks: &mut FormBlocks)
+        ensures { kept_triples self.new ≡ kept_triples self.old }
+    {
+        match self {
+            KeptList::Small(small) => small.move_into(blocks),
+            KeptList::Gathered(gathered) => gathered.move_into(&mut blocks.texts),
+        }
+    }
+
+    /// Leaves the blocks of a list that is of no more use.
+    pub(crate) fn leave_to(self, blocks: &mut FormBlocks) {
+        match self {
+            KeptList::Small(small) => small.leave_to(blocks),
+            KeptList::Gathered(gathered) => gathered.leave_to(&mut blocks.texts),
         }
     }
 }

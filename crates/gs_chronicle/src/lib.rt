@@ -6,16 +6,16 @@ mod kept_lists;
 mod kinds;
 mod laws;
 mod open_uploads;
-mod operations;
 mod pages;
 mod requests;
+mod sizes;
 mod uploads;
 
 pub use entries::Entry;
 pub use kinds::ActionKind;
 pub use laws::page_replays_on;
 pub use open_uploads::OpenUpload;
-pub use operations::ops_size;
 pub use pages::Page;
 pub use requests::Request;
+pub use sizes::{list_size, ops_size};
 pub use uploads::Upload;

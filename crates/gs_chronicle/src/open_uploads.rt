@@ -2,6 +2,7 @@
 ghost use Rattle.std.specs.Prelude.{◌≡◌, ◌+◌, ◌≤◌, ◌++◌, length, min, vec_len, vec_capacity};
 ghost use Rattle.gs_packed_triples.specs.Triples.{packed_triples};
 ghost use Rattle.gs_chronicle.specs.KeptLists.{all_triples};
+ghost use Rattle.gs_chronicle.specs.Sizes.{triples_size};
 
 use crate::kept_lists::{KeptList, keep_gathered};
 use crate::uploads::Upload;
@@ -31,16 +32,19 @@ pub struct OpenUpload {
     gathered: PackedTriples,
     /// The list that is staged next, where it is not gathered, or one that the store refused.
     next: Option<SmallTriples>,
+    /// As how many triples that list counts, and as how many all before it.
+    next_count: usize,
     count: usize,
-    ghost counted: { count ≡ length (all_triples lists.items ++ packed_triples gathered) },
+    ghost counted: { count ≡ triples_size (all_triples lists.items ++ packed_triples gathered) },
     ghost place: { vec_len lists + min (length (packed_triples gathered)) 1 ≤ vec_capacity lists },
 }
 
 impl OpenUpload {
-    ghost use Rattle.std.specs.Prelude.{◌≡◌, ◌+◌, ◌<◌, ◌^◌, [], ◌++◌, if◌then◌else◌, true, length, vec_len, None, IfSome};
+    ghost use Rattle.std.specs.Prelude.{◌≡◌, ◌-◌, ◌^◌, [], ◌++◌, ◌+◌, min, if◌then◌else◌, true, length, vec_len, None, IfSome};
     ghost use Rattle.gs_model.specs.Graphs.{empty_graph, with_triples};
     ghost use Rattle.gs_small_triples.specs.Small.{small_triples};
     ghost use Rattle.gs_packed_triples.specs.Triples.{HasRoomFor};
+    ghost use Rattle.gs_chronicle.specs.Sizes.{triples_size};
     ghost use Rattle.gs_chronicle.specs.Uploads.{staged_triples};
     ghost use Rattle.gs_chronicle.specs.OpenUploads.{triples_so_far, graph_so_far, keeps_form, HasPlace, HasRoomToStage};
 
@@ -60,6 +64,7 @@ impl OpenUpload {
             lists: Vec::new(alloc),
             gathered: PackedTriples::new(alloc),
             next: None,
+            next_count: 0,
             count: 0,
         }
     }
@@ -98,10 +103,16 @@ impl OpenUpload {
         }
     }
 
-    /// Makes room for a list, with its small form where there is one. False where memory is refused, or
-    /// where 64 bits cannot count the triples or the bytes of their texts.
-    pub fn make_room(&mut self, list: &TripleList, small: Option<SmallTriples>) -> bool
-        requires { IfSome small (λ s. small_triples s ≡ list.now.items) }
+    /// Makes room for a list that counts as so many triples, with its small form where there is one. False
+    /// where memory is refused, or where 64 bits cannot count the texts that are gathered, or their bytes.
+    pub fn make_room(
+        &mut self,
+        list: &TripleList,
+        small: Option<SmallTriples>,
+        count: usize,
+    ) -> bool
+        requires form { IfSome small (λ s. small_triples s ≡ list.now.items) }
+        requires count { count ≡ triples_size list.now.items }
         ensures kind { self.new.kind ≡ self.old.kind }
         ensures request { self.new.request ≡ self.old.request }
         ensures since { self.new.since ≡ self.old.since }
@@ -111,9 +122,10 @@ impl OpenUpload {
             self.new.next ≡
             if keeps_form self.old.count (vec_len self.old.lists) (length list.now.items) then small else None }
     {
-        if self.count.checked_add(list.len()).is_none() || !self.make_place() {
+        if !self.make_place() {
             return false;
         }
+        self.next_count = count;
         let next = self.kept_form(list, small);
         drop(mem::replace(&mut self.next, next));
         if self.next.is_some() {
@@ -125,28 +137,28 @@ impl OpenUpload {
     /// Adds a list to those that are gathered, for which there is room. Takes no memory.
     fn gather(&mut self, list: &TripleList)
         requires room { HasRoomFor self.old.gathered list.now.items }
-        requires count { self.old.count + length list.now.items < 2 ^ 64 }
+        requires count { self.old.next_count ≡ triples_size list.now.items }
         requires place { HasPlace self.old }
         ensures kind { self.new.kind ≡ self.old.kind }
         ensures request { self.new.request ≡ self.old.request }
         ensures since { self.new.since ≡ self.old.since }
         ensures triples { triples_so_far self.new ≡ triples_so_far self.old ++ list.now.items }
     {
-        self.count += list.len();
+        self.count = self.count.saturating_add(self.next_count);
         self.gathered.add(list);
     }
 
     /// Adds a small form after what is gathered, where there is a place for each. Takes no memory, but for
     /// smaller blocks for what is gathered.
     fn keep(&mut self, small: SmallTriples)
-        requires count { self.old.count + length (small_triples small) < 2 ^ 64 }
+        requires count { self.old.next_count ≡ triples_size (small_triples small) }
         requires place { HasPlace self.old }
         ensures kind { self.new.kind ≡ self.old.kind }
         ensures request { self.new.request ≡ self.old.request }
         ensures since { self.new.since ≡ self.old.since }
         ensures triples { triples_so_far self.new ≡ triples_so_far self.old ++ small_triples small }
     {
-        self.count += small.len();
+        self.count = self.count.saturating_add(self.next_count);
         let alloc = *self.lists.allocator();
         let gathered = mem::replace(&mut self.gathered, PackedTriples::new(alloc));
         keep_gathered(&mut self.lists, gathered);
@@ -184,6 +196,7 @@ impl OpenUpload {
             mut lists,
             gathered,
             next: _,
+            next_count: _,
             count,
         } = self;
         keep_gathered(&mut lists, gathered);

@@ -1,21 +1,35 @@
 //! Pages of history.
-ghost use Rattle.std.specs.Prelude.{◌≡◌, ◌<◌, ◌≤◌, vec_len, vec_capacity};
+ghost use Rattle.std.specs.Prelude.{◌≡◌, ◌<◌, ◌≤◌, [], vec_len, vec_capacity};
 ghost use Rattle.gs_chronicle.specs.Pages.{stored_in, AreNumbered};
 ghost use Rattle.gs_chronicle.specs.Rows.{rows_of};
 
 use crate::entries::Entry;
 use crate::requests::Request;
 use gs_model::Refusal;
+use gs_small_triples::FormBlocks;
 use std::alloc::Global;
 
-/// The last calls that a store decided: at most `ENTRIES` of them, with at most `TRIPLES` triples and
-/// patterns in all. They are numbered from 0, and pages are numbered from 0 too.
+/// Takes all entries out, and leaves their blocks.
+fn clear_entries(entries: &mut Vec<Entry>, blocks: &mut FormBlocks)
+    ensures entries { entries.new.items ≡ [] }
+    ensures capacity { vec_capacity entries.new ≡ vec_capacity entries.old }
+{
+    while let Some(entry) = entries.pop() {
+        entry.leave_to(blocks);
+    }
+}
+
+/// The last calls that a store decided: at most `ENTRIES` of them, which count as at most `TRIPLES` triples
+/// in all. A triple or a pattern counts once, and once more for each 32 bytes of its texts. They are
+/// numbered from 0, and pages are numbered from 0 too.
 #[derive(Debug, Drop)]
 pub struct Page<const ENTRIES: usize, const TRIPLES: usize> {
     number: u64,
     entries: Vec<Entry>,
-    /// Triples and patterns of the entries, with repeats.
+    /// As how many triples the entries count, with repeats.
     stored: usize,
+    /// Blocks of the entries of the page before.
+    spare: FormBlocks,
     ghost some: { 0 < ENTRIES },
     ghost few: { vec_len entries ≤ ENTRIES },
     ghost room: { ENTRIES ≤ vec_capacity entries },
@@ -48,6 +62,7 @@ impl<const ENTRIES: usize, const TRIPLES: usize> Page<ENTRIES, TRIPLES> {
             number: 0,
             entries,
             stored: 0,
+            spare: FormBlocks::new(alloc),
         })
     }
 
@@ -68,31 +83,34 @@ impl<const ENTRIES: usize, const TRIPLES: usize> Page<ENTRIES, TRIPLES> {
         self.entries.as_slice()
     }
 
-    /// Clears the page, which gets the next number.
+    /// Clears the page, which gets the next number. The blocks of its entries are spare ones then; those of
+    /// the page before that nothing was moved into are given back.
     pub fn turn_page(&mut self)
         ensures { page_of self.new ≡ turned (page_of self.old) }
     {
-        self.entries.clear();
+        self.spare.clear();
+        clear_entries(&mut self.entries, &mut self.spare);
         self.stored = 0;
         self.number = self.number.saturating_add(1);
     }
 
-    /// Stores a call that was decided. Where the page has no room for it, it is turned first; a call with
-    /// more triples than a page holds is not stored, and turns the page. Takes no memory, and copies
-    /// nothing.
-    pub fn add(&mut self, seat: u16, request: Request, status: u16)
+    /// Stores a call that was decided. Where the page has no room for it, it is turned first; a call that
+    /// counts as more triples than a page holds is not stored, and turns the page. Takes no memory. What a
+    /// short upload brought is copied into spare blocks.
+    pub fn add(&mut self, seat: u16, mut request: Request, status: u16)
         ensures { page_of self.new
             ≡ page_after ENTRIES TRIPLES (page_of self.old) (call_of seat request status) }
     {
-        match request.triples() {
-            Some(triples) if triples <= TRIPLES => {
-                if self.entries.len() >= ENTRIES || triples > TRIPLES - self.stored {
-                    self.turn_page();
-                }
-                self.push(seat, request, status, triples);
-            }
-            _ => self.turn_page(),
+        let triples = request.triples();
+        if triples > TRIPLES {
+            self.turn_page();
+            return;
         }
+        if self.entries.len() >= ENTRIES || triples > TRIPLES - self.stored {
+            self.turn_page();
+        }
+        request.move_into(&mut self.spare);
+        self.push(seat, request, status, triples);
     }
 
     /// Stores a call of so many triples, for which there is room.

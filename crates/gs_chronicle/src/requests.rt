@@ -1,12 +1,13 @@
 //! What a store was asked by a call that it decided.
-ghost use Rattle.std.specs.Prelude.{◌≡◌, ◌≤◌, ◌^◌, MatchOption};
+ghost use Rattle.std.specs.Prelude.{◌≡◌};
 ghost use Rattle.gs_chronicle.specs.Kinds.{action_kind_of};
 ghost use Rattle.gs_chronicle.specs.Requests.{asked_in, request_size};
 
 use crate::kinds::ActionKind;
-use crate::operations::ops_size;
+use crate::sizes::ops_size;
 use crate::uploads::Upload;
 use gs_event::{Op, Scope};
+use gs_small_triples::FormBlocks;
 use gs_term::Target;
 
 /// What a store was asked by a call that it decided, with all that it brought.
@@ -39,14 +40,32 @@ impl Request {
         }
     }
 
-    /// How many triples and patterns it has, with repeats. `None` where no `usize` holds the number.
-    pub fn triples(&self) -> Option<usize>
-        ensures { MatchOption result (2 ^ 64 ≤ request_size self.now) (λ n. n ≡ request_size self.now) }
+    /// Moves what an upload brought into spare blocks, where these are found. Takes no memory.
+    pub(crate) fn move_into(&mut self, blocks: &mut FormBlocks)
+        ensures asked { asked_in self.new ≡ asked_in self.old }
+        ensures size { request_size self.new ≡ request_size self.old }
+    {
+        if let Request::Upload(upload) = self {
+            upload.move_into(blocks);
+        }
+    }
+
+    /// Leaves the blocks of a request that is of no more use.
+    pub(crate) fn leave_to(self, blocks: &mut FormBlocks) {
+        if let Request::Upload(upload) = self {
+            upload.leave_to(blocks);
+        }
+    }
+
+    /// As how many triples it counts, with repeats: each triple and each pattern once, and once more for
+    /// each 32 bytes of its texts.
+    pub fn triples(&self) -> usize
+        ensures { result ≡ request_size self.now }
     {
         match self {
-            Request::Upload(upload) => Some(upload.count()),
+            Request::Upload(upload) => upload.count(),
             Request::Patch(_, ops, _) => ops_size(ops.as_slice()),
-            Request::Delete(_, _) | Request::Head(_) | Request::Pin(_) => Some(0),
+            Request::Delete(_, _) | Request::Head(_) | Request::Pin(_) => 0,
         }
     }
 }

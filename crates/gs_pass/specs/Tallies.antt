@@ -2,7 +2,7 @@
 use Rattle.std.specs.Prelude.{◌≡◌, ℕ, ◌+◌, List, [], ◌∷◌, ◌++◌, length, min, nat_lt, MatchBool, Option, Some, None}
 use Rattle.gs_chronicle.specs.declared.kinds.ActionKind.{ActionKind}
 use Rattle.gs_chronicle.specs.declared.kinds.ActionKind.TheVariants.{Commit as CommitKind, CommitPatch as PatchKind, Delete as DeleteKind, Head as HeadKind, Pin as PinKind}
-use Rattle.gs_chronicle.specs.Sizes.{ops_size}
+use Rattle.gs_chronicle.specs.Sizes.{triples_size, ops_size}
 use Rattle.gs_event.specs.declared.events.Action.{Action}
 use Rattle.gs_event.specs.declared.events.Action.TheVariants.{Stage, Commit, CommitPatch, Delete, Head, Pin}
 use Rattle.gs_event.specs.declared.answers.Answer.{Answer}
@@ -35,9 +35,9 @@ decides (Head c) (Status s name number) = Some (HeadKind, s)
 decides (Pin c) (Pinned s number) = Some (PinKind, s)
 decides action a = None
 
--- how many triples an action brings that was answered so: those of a Stage, and triples and patterns of a CommitPatch
+-- as how many triples counts what an action brings that was answered so: the list of a Stage, and the operations of a CommitPatch
 abbrev pub brought_by : Action → Answer → ℕ
-brought_by (Stage ts) Staged = length ts.items
+brought_by (Stage ts) Staged = triples_size ts.items
 brought_by (CommitPatch ops) (Status s name number) = ops_size ops.items
 brought_by action a = 0
 

@@ -56,8 +56,8 @@ impl<C: Ledger, T: Ledger, B: Room> Pass<C, T, B> {
         self.record.calls
     }
 
-    /// How many triples the stages and patches brought that were not refused, with repeats, and how
-    /// many patterns. The count stops at 2^64 - 1.
+    /// As how many triples a page counts what the stages and patches brought that were not refused, with
+    /// repeats (`gs_chronicle::list_size`, `ops_size`). The count stops at 2^64 - 1.
     pub fn triples(&self) -> u64
         ensures value { result ≡ self.now.record.triples }
     {

@@ -10,8 +10,8 @@ pub(crate) const MAX_RECEIPTS: usize = 4_096;
 /// What a pass was told of a deciding call.
 #[derive(Clone, Copy, Debug, PartialEq, Eq)]
 pub struct Receipt {
-    /// The number of the entry, counted from 0 in its page; 0 where the call has more triples than a
-    /// page holds, so that none stores it.
+    /// The number of the entry, counted from 0 in its page; 0 where the call counts as more triples
+    /// than a page holds, so that none stores it.
     pub number: u64,
     /// What kind of action decided.
     pub kind: ActionKind,

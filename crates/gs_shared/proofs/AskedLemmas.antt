@@ -16,7 +16,7 @@ use Rattle.gs_pass.specs.Tallies.{Tally, decides, brought_by, count_plus, AddsRe
 use Rattle.gs_pass.specs.declared.receipts.Receipt.{Receipt}
 use Rattle.gs_shared.specs.declared.asked.EventAsk.{EventAsk}
 use Rattle.gs_shared.specs.declared.asked.EventAsk.TheVariants.{Stage as AsksStage, Status as AsksStatus, Pin as AsksPin, Nothing as AsksNothing}
-use Rattle.gs_shared.specs.Asked.{capped_count, ask_of_action, ask_of_event, decided_of, brought_of}
+use Rattle.gs_shared.specs.Asked.{ask_of_action, ask_of_event, decided_of, brought_of}
 use Rattle.gs_shared.specs.Tells.{is_of_another, ToldBy}
 
 -- what an action asked decides with an answer what the action decides
@@ -34,7 +34,7 @@ decided_of-ask_of_action (Pin c) a = refl
 decided_of-ask_of_action action a = refl
 
 -- what an action asked brings with an answer what the action brings
-pub brought_of-ask_of_action : (action : Action) (a : Answer) → brought_of (ask_of_action action) a ≡ capped_count (brought_by action a)
+pub brought_of-ask_of_action : (action : Action) (a : Answer) → brought_of (ask_of_action action) a ≡ brought_by action a
 brought_of-ask_of_action (Stage ts) Staged = refl
 brought_of-ask_of_action (Stage ts) a = refl
 brought_of-ask_of_action Commit (Status s name number) = refl
@@ -54,15 +54,11 @@ decided_of-Refused (AsksStatus kind n) r = refl
 decided_of-Refused AsksPin r = refl
 decided_of-Refused AsksNothing r = refl
 
--- a count that goes up by a number that stops there goes up by the number
-count_plus-capped : (n more : ℕ) → count_plus n (capped_count more) ≡ count_plus n more
-count_plus-capped n more = omega arith
-
 -- What a pass is told of an event that decided nothing: its triples are counted, and nothing else.
 pub told_undecided : (e : Event) (a : Answer) (v w : Tally) → decided_of (ask_of_event e) a ≡ None → v.triples ≤ 2 ^ 64 - 1 → w.receipts ≡ v.receipts → w.calls ≡ v.calls → w.triples ≡ count_plus v.triples (brought_of (ask_of_event e) a) → ToldBy e a v w
 told_undecided (At s action) a v w none small receipts calls triples =
     let undecided = sym (decided_of-ask_of_action action a) ∙ none in
-    let brought = ap (count_plus v.triples) (brought_of-ask_of_action action a) ∙ count_plus-capped v.triples (brought_by action a) in
+    let brought = ap (count_plus v.triples) (brought_of-ask_of_action action a) in
     (subst (λ d. CountsCall d v w) (sym undecided) (receipts, calls), triples ∙ brought)
 told_undecided (Reclaim n) a v w none small receipts calls triples =
     let same : w.triples ≡ v.triples = omega (arith, triples, small) in
@@ -72,7 +68,7 @@ told_undecided (Reclaim n) a v w none small receipts calls triples =
 pub told_decided : (e : Event) (a : Answer) (u v w : Tally) (r : Receipt) → decided_of (ask_of_event e) a ≡ Some (r.kind, r.status) → v.receipts ≡ u.receipts → v.calls ≡ u.calls → v.triples ≡ count_plus u.triples (brought_of (ask_of_event e) a) → Enters r v w → ToldBy e a u w
 told_decided (At s action) a u v w r some receipts calls triples enters =
     let decided = sym (decided_of-ask_of_action action a) ∙ some in
-    let brought = ap (count_plus u.triples) (brought_of-ask_of_action action a) ∙ count_plus-capped u.triples (brought_by action a) in (
+    let brought = ap (count_plus u.triples) (brought_of-ask_of_action action a) in (
       subst (λ d. CountsCall d u w) (sym decided)
           (r.number, subst (λ rs. AddsReceipt rs r w.receipts) receipts enters.0, enters.1 ∙ ap (λ n. count_plus n 1) calls),
       enters.2 ∙ triples ∙ brought,

@@ -25,7 +25,7 @@ use Rattle.gs_chronicle.specs.Pages.{Decided}
 use Rattle.gs_audit.specs.Staged.{staged_since_open, staged_after}
 use Rattle.gs_audit.specs.Decisions.{status_in, call_for, decided_at, decided_if, decided_by}
 use Rattle.gs_pass.specs.Tallies.{decides, brought_by}
-use Rattle.gs_shared.specs.Asked.{capped_count, ask_of_action, ask_of_event, decided_of, brought_of, IsSmallAction, IsSmallEvent}
+use Rattle.gs_shared.specs.Asked.{ask_of_action, ask_of_event, decided_of, brought_of}
 use Rattle.gs_shared.specs.Tells.{is_of_another}
 use Rattle.gs_shared.proofs.AskedLemmas.{decided_of-ask_of_action, brought_of-ask_of_action, decided_of-Refused}
 
@@ -53,26 +53,25 @@ commit_law s n (Patching t r since) a = omega arith
 commit_law s n (Reading left) a = omega arith
 
 -- What is staged at a seat after an event, and what the event decided, was staged before it or came with it.
-seat_law : (s n : ℕ) (p : SeatView) (action : Action) (a : Answer) (more : ℕ) → IsSmallAction action → more ≡ capped_count (brought_by action a) → staged_since_open n action a + capped_count (size_if (decided_at s p n action a)) ≤ n + more
-seat_law s n p Commit a more small is = let few = commit_law s n p a in omega (arith, few)
-seat_law s n p (CommitPatch ops) (Status x name number) more small is =
-    let few = size_if-call_for s (ops_size ops.items) x (operation_of p (CommitPatch ops) (Status x name number)) in omega (arith, few, is)
-seat_law s n Idle (CommitPatch ops) a more small is = omega arith
-seat_law s n (Writing k r g since) (CommitPatch ops) a more small is = omega arith
-seat_law s n (Patching t r since) (CommitPatch ops) a more small is = omega arith
-seat_law s n (Reading left) (CommitPatch ops) a more small is = omega arith
-seat_law s n p (Stage ts) Staged more small is =
-    let few = size_if-call_for s 0 0 (operation_of p (Stage ts) Staged) in omega (arith, few, is, small)
-seat_law s n p (Stage ts) a more small is = let few = size_if-call_for s 0 (status_in a) (operation_of p (Stage ts) a) in omega (arith, few)
-seat_law s n p (Open k c) (Opened r) more small is = let few = size_if-call_for s 0 0 (operation_of p (Open k c) (Opened r)) in omega (arith, few)
-seat_law s n p (Open k c) a more small is = let few = size_if-call_for s 0 (status_in a) (operation_of p (Open k c) a) in omega (arith, few)
-seat_law s n p Cancel Cancelled more small is = let few = size_if-call_for s 0 0 (operation_of p Cancel Cancelled) in omega (arith, few)
-seat_law s n p Cancel a more small is = let few = size_if-call_for s 0 (status_in a) (operation_of p Cancel a) in omega (arith, few)
-seat_law s n p (OpenPatch t c) a more small is = let few = size_if-call_for s 0 (status_in a) (operation_of p (OpenPatch t c) a) in omega (arith, few)
-seat_law s n p (Delete t c) a more small is = let few = size_if-call_for s 0 (status_in a) (operation_of p (Delete t c) a) in omega (arith, few)
-seat_law s n p (Head c) a more small is = let few = size_if-call_for s 0 (status_in a) (operation_of p (Head c) a) in omega (arith, few)
-seat_law s n p (Pin c) a more small is = let few = size_if-call_for s 0 (status_in a) (operation_of p (Pin c) a) in omega (arith, few)
-seat_law s n p (Piece m) a more small is = let few = size_if-call_for s 0 (status_in a) (operation_of p (Piece m) a) in omega (arith, few)
+seat_law : (s n : ℕ) (p : SeatView) (action : Action) (a : Answer) → staged_since_open n action a + size_if (decided_at s p n action a) ≤ n + brought_by action a
+seat_law s n p Commit a = let few = commit_law s n p a in omega (arith, few)
+seat_law s n p (CommitPatch ops) (Status x name number) =
+    let few = size_if-call_for s (ops_size ops.items) x (operation_of p (CommitPatch ops) (Status x name number)) in omega (arith, few)
+seat_law s n Idle (CommitPatch ops) a = omega arith
+seat_law s n (Writing k r g since) (CommitPatch ops) a = omega arith
+seat_law s n (Patching t r since) (CommitPatch ops) a = omega arith
+seat_law s n (Reading left) (CommitPatch ops) a = omega arith
+seat_law s n p (Stage ts) Staged = let few = size_if-call_for s 0 0 (operation_of p (Stage ts) Staged) in omega (arith, few)
+seat_law s n p (Stage ts) a = let few = size_if-call_for s 0 (status_in a) (operation_of p (Stage ts) a) in omega (arith, few)
+seat_law s n p (Open k c) (Opened r) = let few = size_if-call_for s 0 0 (operation_of p (Open k c) (Opened r)) in omega (arith, few)
+seat_law s n p (Open k c) a = let few = size_if-call_for s 0 (status_in a) (operation_of p (Open k c) a) in omega (arith, few)
+seat_law s n p Cancel Cancelled = let few = size_if-call_for s 0 0 (operation_of p Cancel Cancelled) in omega (arith, few)
+seat_law s n p Cancel a = let few = size_if-call_for s 0 (status_in a) (operation_of p Cancel a) in omega (arith, few)
+seat_law s n p (OpenPatch t c) a = let few = size_if-call_for s 0 (status_in a) (operation_of p (OpenPatch t c) a) in omega (arith, few)
+seat_law s n p (Delete t c) a = let few = size_if-call_for s 0 (status_in a) (operation_of p (Delete t c) a) in omega (arith, few)
+seat_law s n p (Head c) a = let few = size_if-call_for s 0 (status_in a) (operation_of p (Head c) a) in omega (arith, few)
+seat_law s n p (Pin c) a = let few = size_if-call_for s 0 (status_in a) (operation_of p (Pin c) a) in omega (arith, few)
+seat_law s n p (Piece m) a = let few = size_if-call_for s 0 (status_in a) (operation_of p (Piece m) a) in omega (arith, few)
 
 -- a sum after one of its numbers was set
 sum_set : (xs : List ℕ) (s x : ℕ) → sum (slice_set xs s x) + slice_index xs s ≤ sum xs + x
@@ -81,19 +80,22 @@ sum_set (y ∷ ys) zero x = omega (arith, sum_by-cons (λ n. n) x ys, sum_by-con
 sum_set (y ∷ ys) (suc s) x = let h = sum_set ys s x in omega (arith, h, sum_by-cons (λ n. n) y (slice_set ys s x), sum_by-cons (λ n. n) y ys)
 
 -- What is staged in all after an event, and what the event decided, was staged before it or came with it.
-pub staged_law : (v : View) (staged : List ℕ) (e : Event) (a : Answer) (more : ℕ) → IsSmallEvent e → more ≡ brought_of (ask_of_event e) a → sum (staged_after staged e a) + capped_count (size_if (decided_by v staged e a)) ≤ sum staged + more
-staged_law v staged (Reclaim n) a more small is = omega arith
-staged_law v staged (At s action) a more small is = at (slice_get v.seats s)
+pub staged_law : (v : View) (staged : List ℕ) (e : Event) (a : Answer) (more : ℕ) → more ≡ brought_of (ask_of_event e) a → sum (staged_after staged e a) + size_if (decided_by v staged e a) ≤ sum staged + more
+staged_law v staged (Reclaim n) a more is = omega arith
+staged_law v staged (At s action) a more is = at (slice_get v.seats s)
   where
-    at : (o : Option SeatView) → sum (slice_set staged s (staged_since_open (slice_index staged s) action a)) + capped_count (size_if (decided_if s o (slice_index staged s) action a)) ≤ sum staged + more
+    brought : more ≡ brought_by action a
+    brought = is ∙ brought_of-ask_of_action action a
+
+    at : (o : Option SeatView) → sum (slice_set staged s (staged_since_open (slice_index staged s) action a)) + size_if (decided_if s o (slice_index staged s) action a) ≤ sum staged + more
     at None =
-        let law = seat_law s (slice_index staged s) Idle action a more small (is ∙ brought_of-ask_of_action action a) in
+        let law = seat_law s (slice_index staged s) Idle action a in
         let set = sum_set staged s (staged_since_open (slice_index staged s) action a) in
-        omega (arith, law, set)
+        omega (arith, law, set, brought)
     at (Some p) =
-        let law = seat_law s (slice_index staged s) p action a more small (is ∙ brought_of-ask_of_action action a) in
+        let law = seat_law s (slice_index staged s) p action a in
         let set = sum_set staged s (staged_since_open (slice_index staged s) action a) in
-        omega (arith, law, set)
+        omega (arith, law, set, brought)
 
 -- An idle seat: what it decides has the kind and status that the answer alone gives.
 idle_mark : (t : Totals) (s n : ℕ) (action : Action) (a : Answer) → FitsSeat t Idle action a → mark_if (decided_at s Idle n action a) ≡ decides action a

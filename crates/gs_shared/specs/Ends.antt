@@ -11,7 +11,7 @@ use Rattle.gs_shared.specs.Limits.{page_entries, page_triples}
 abbrev pub counted_calls : List Record → ℕ
 counted_calls records = sum_by (λ r. r.calls) records
 
--- how many triples these passes counted
+-- as how many triples counts what these passes brought
 abbrev pub counted_triples : List Record → ℕ
 counted_triples records = sum_by (λ r. r.triples) records
 
@@ -32,7 +32,7 @@ StandFrom from rows seat (r ∷ rs) =
 abbrev pub ReceiptsStand : List Row → Record → Type 0
 ReceiptsStand rows r = StandFrom 0 rows r.seat r.receipts.items
 
--- these passes counted no more deciding calls and no more triples than a page holds
+-- these passes counted no more deciding calls, and no more triples as a page counts them, than a page holds
 abbrev pub FitOnePage : List Record → Type 0
 FitOnePage records = (counted_calls records ≤ page_entries) × (counted_triples records ≤ page_triples)
 

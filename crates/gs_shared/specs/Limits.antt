@@ -5,6 +5,6 @@ use Rattle.std.specs.Prelude.{ℕ}
 abbrev pub page_entries : ℕ
 page_entries = 65536
 
--- triples of a page, with repeats, and patterns
+-- as how many triples the entries of a page may count, with repeats
 abbrev pub page_triples : ℕ
 page_triples = 4000000

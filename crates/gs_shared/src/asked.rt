@@ -1,17 +1,17 @@
 //! What an event asks, as far as the tally of its pass is concerned: it is read off the event before
 //! the store takes it.
 ghost use Rattle.std.specs.Prelude.{◌≡◌};
-ghost use Rattle.gs_shared.specs.Asked.{ask_of_action, ask_of_event, decided_of, brought_of, IsSmallAction, IsSmallEvent};
+ghost use Rattle.gs_shared.specs.Asked.{ask_of_action, ask_of_event, decided_of, brought_of, staged_in};
 
-use gs_chronicle::{ActionKind, ops_size};
+use gs_chronicle::{ActionKind, list_size, ops_size};
 use gs_event::{Action, Answer, Event};
 
 /// What an event asks.
 #[derive(Clone, Copy)]
 pub enum EventAsk {
-    /// To stage so many triples.
+    /// To stage a list that counts as so many triples.
     Stage(u64),
-    /// What a status decides, by an action of this kind that brings so many triples.
+    /// What a status decides, by an action of this kind. What it brings counts as so many triples.
     Status(ActionKind, u64),
     /// To begin a read.
     Pin,
@@ -22,8 +22,7 @@ pub enum EventAsk {
 impl EventAsk {
     /// What an event asks.
     pub(crate) fn by(event: &Event) -> EventAsk
-        ensures value { result ≡ ask_of_event event.now }
-        ensures small { IsSmallEvent event.now }
+        ensures { result ≡ ask_of_event event.now }
     {
         match event {
             Event::Seat(_, action) => EventAsk::within(action),
@@ -32,15 +31,13 @@ impl EventAsk {
     }
 
     fn within(action: &Action) -> EventAsk
-        ensures value { result ≡ ask_of_action action.now }
-        ensures small { IsSmallAction action.now }
+        ensures { result ≡ ask_of_action action.now }
     {
         match action {
-            Action::Stage(list) => EventAsk::Stage(list.len() as u64),
+            Action::Stage(list) => EventAsk::Stage(list_size(list) as u64),
             Action::Commit => EventAsk::Status(ActionKind::Commit, 0),
             Action::CommitPatch(ops) => {
-                let triples = ops_size(ops.as_slice()).unwrap_or(usize::MAX);
-                EventAsk::Status(ActionKind::CommitPatch, triples as u64)
+                EventAsk::Status(ActionKind::CommitPatch, ops_size(ops) as u64)
             }
             Action::Delete(_, _) => EventAsk::Status(ActionKind::Delete, 0),
             Action::Head(_) => EventAsk::Status(ActionKind::Head, 0),
@@ -48,6 +45,16 @@ impl EventAsk {
             Action::Open(_, _) | Action::OpenPatch(_, _) | Action::Piece(_) | Action::Cancel => {
                 EventAsk::Nothing
             }
+        }
+    }
+
+    /// As how many triples counts the list that is staged.
+    pub(crate) fn staged(self) -> u64
+        ensures { result ≡ staged_in self }
+    {
+        match self {
+            EventAsk::Stage(triples) => triples,
+            _ => 0,
         }
     }
 
@@ -68,7 +75,7 @@ impl EventAsk {
         }
     }
 
-    /// How many triples came with this answer.
+    /// As how many triples counts what came with this answer.
     pub(crate) fn brought(self, answer: &Answer) -> u64
         ensures { result ≡ brought_of self answer.now }
     {

@@ -7,7 +7,7 @@ ghost use Rattle.gs_audit.specs.Audits.{staged_of};
 ghost use Rattle.gs_audit.specs.Slots.{staged_by};
 ghost use Rattle.gs_door.specs.Kinds.{IsOfKind};
 ghost use Rattle.gs_pass.specs.Tallies.{tally_of};
-ghost use Rattle.gs_shared.specs.Asked.{ask_of_event, IsSmallEvent};
+ghost use Rattle.gs_shared.specs.Asked.{ask_of_event};
 ghost use Rattle.gs_shared.specs.Counts.{IsTied, IsPageCounted};
 ghost use Rattle.gs_shared.specs.Limits.{page_entries, page_triples};
 ghost use Rattle.gs_shared.specs.Seats.{BeganAs, IsFreshOf};
@@ -69,14 +69,14 @@ impl<C: Ledger, T: Ledger, B: Room> Locked<C, T, B> {
         requires own { is_of_another pass.old.record.seat event.old ≡ false }
         requires cell { cell.now.table.shared.table_id ≡ B.table }
         requires asked { asked ≡ ask_of_event event.old }
-        requires few { IsSmallEvent event.old }
         requires small { IfSome small (λ s. small_triples s ≡ staged_by event.old) }
         ensures told { ToldBy event.old result (tally_of pass.old.record) (tally_of pass.new.record) }
         ensures kind { IsOfKind event.old result }
         ensures there { result ≢ Answer.Refused Refusal.BadSeat }
         ensures seat { pass.new.record.seat ≡ pass.old.record.seat }
     {
-        let answer = self.audited.event_with(event, small);
+        let count = asked.staged() as usize;
+        let answer = self.audited.event_with(event, small, count);
         self.register.count(pass, asked.brought(&answer));
         match asked.decided(&answer) {
             None => answer,

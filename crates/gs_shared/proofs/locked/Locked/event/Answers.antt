@@ -1,4 +1,4 @@
-use Rattle.std.proofs.Common.{◌+◌, [], ◌∷◌, ◌++◌, sym, ap, ◌∙◌, arith}
+use Rattle.std.proofs.Common.{◌+◌, [], ◌∷◌, ◌++◌, sym, ap, ◌∙◌}
 use Rattle.gs_shared.specs.Asked.{decided_of, brought_of}
 use Rattle.gs_pass.specs.Stamps.{receipt, stamp}
 use Rattle.gs_pass.specs.Tallies.{tally_of, count_plus}
@@ -12,7 +12,7 @@ invariant_of-self g c =
     let a = c.event_with-answer.result in
     let asked = sym c.requires.asked in
     let step = c.event_with-answer.ensures in
-    let kept = undecided_kept 65536 4000000 _ _ _ c.args.event.now a _ _ c.brought.result _ _ _ _ _ _ step.steps.fits step.page step.staged c.requires.few
+    let kept = undecided_kept 65536 4000000 _ _ _ c.args.event.now a _ _ c.brought.result _ _ _ _ _ _ step.steps.fits step.page step.staged
     (c.brought.ensures ∙ ap (λ x. brought_of x a) (sym asked)) (ap (λ x. decided_of x a) asked ∙ sym c.decided.ensures ∙ c.in-None.is)
     c.count.ensures.stamps c.count.ensures.totals.0 c.count.ensures.totals.1 c.args.self.now.tied c.args.self.now.counted in record {
       began = began_next g.B.Room.start _ _ c.args.event.now a step.steps.view c.args.self.now.began;
@@ -25,8 +25,8 @@ invariant_of-self-in-Some g c =
     let a = c.event_with-answer.result in
     let asked = sym c.requires.asked in
     let step = c.event_with-answer.ensures in
-    let kept = decided_kept 65536 4000000 _ _ _ c.args.event.now a _ _ c.brought.result c.args.pass.now.record.seat (receipt c.last_number-number.result c.in-Some.kind c.in-Some.status) _ _ _ _ _ _ (omega arith)
-    step.steps.fits step.page step.staged c.requires.own c.requires.few
+    let kept = decided_kept 65536 4000000 _ _ _ c.args.event.now a _ _ c.brought.result c.args.pass.now.record.seat (receipt c.last_number-number.result c.in-Some.kind c.in-Some.status) _ _ _ _ _ _
+    step.steps.fits step.page step.staged c.requires.own
     (c.brought.ensures ∙ ap (λ x. brought_of x a) (sym asked)) (ap (λ x. decided_of x a) asked ∙ sym c.decided.ensures ∙ c.in-Some.is) c.last_number-number.ensures
     (c.enter.ensures.stamps ∙ (λ i. c.count.ensures.stamps i ++ stamp (c.count.ensures.seat i) (receipt c.last_number-number.result c.in-Some.kind c.in-Some.status) ∷ []))
     (c.enter.ensures.totals.0 ∙ ap (λ n. n + 1) c.count.ensures.totals.0) (c.enter.ensures.totals.1 ∙ c.count.ensures.totals.1) c.args.self.now.tied c.args.self.now.counted in record {
