@@ -33,9 +33,9 @@ silence = 1_000_000_000
 abbrev pub least_rest : ℕ
 least_rest = 1_000_000
 
--- 1 second, the most
+-- 200 milliseconds, the most
 abbrev pub most_rest : ℕ
-most_rest = 1_000_000_000
+most_rest = 200_000_000
 
 -- the rest after a sweep that took so long: 16 times as long, but no less than the least and no more than the most
 abbrev pub pause_after : ℕ → ℕ

@@ -43,15 +43,16 @@ pub const WAITING_PLACES: usize = 768;
 pub const WAITING_NOTES: usize = 16;
 
 /// How many times as long as a sweep took the reclaimer rests after it. So it has at most a seventeenth
-/// of the time, unless a sweep takes longer than a sixteenth of a second.
+/// of the time, unless a sweep takes longer than an eightieth of a second.
 pub(crate) const REST_TIMES: u128 = 16;
 
 /// The least nanoseconds of this rest, a millisecond: the notes of many requests become one.
 pub(crate) const LEAST_REST_NANOSECONDS: u64 = 1_000_000;
 
-/// The most nanoseconds of this rest, a second. A clock that jumps does not keep the reclaimer from its
-/// work for longer, and what waits to be freed is no more than what a second and a sweep leave behind.
-pub(crate) const MOST_REST_NANOSECONDS: u64 = 1_000_000_000;
+/// The most nanoseconds of this rest, a fifth of a second. A clock that jumps does not keep the reclaimer
+/// from its work for longer, and what waits to be freed is no more than what this rest and a sweep leave
+/// behind.
+pub(crate) const MOST_REST_NANOSECONDS: u64 = 200_000_000;
 
 /// The seconds that one read may wait for a client to end too, once its connection was served; and those
 /// after which such reads end while others wait.

@@ -47,7 +47,7 @@ const RESTS: [(&str, Option<u64>, u64); 5] = [
     (
         "of an hour, as where a clock jumps",
         Some(3_600_000_000_000),
-        1_000_000_000,
+        200_000_000,
     ),
     ("a clock that cannot be read", None, 1_000_000),
 ];
@@ -121,11 +121,11 @@ const SWEEPS: [(&str, u64, u64, u64); 8] = [
     (
         "of a nanosecond less than the next one",
         0,
-        62_499_999,
-        999_999_984,
+        12_499_999,
+        199_999_984,
     ),
-    ("of a sixteenth of a second", 0, 62_500_000, 1_000_000_000),
-    ("of an hour", 0, 3_600_000_000_000, 1_000_000_000),
+    ("of an eightieth of a second", 0, 12_500_000, 200_000_000),
+    ("of an hour", 0, 3_600_000_000_000, 200_000_000),
 ];
 
 /// Whether a sweep of such tries is followed by such a rest.
