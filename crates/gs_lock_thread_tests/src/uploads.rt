@@ -49,7 +49,8 @@ fn is_small(alloc: Global, entry: &Entry) -> Result<bool, Refusal> {
     let text = format!(in alloc; "{upload:?}")?;
     let small = text.as_str().matches("Small(").count();
     let gathered = text.as_str().matches("Gathered(").count();
-    Ok(upload.count() == COUNT as usize && small == 1 && gathered == 0)
+    let triples = upload.to_vec(alloc)?;
+    Ok(triples.len() == COUNT as usize && small == 1 && gathered == 0)
 }
 
 /// Whether these are four such entries.
