@@ -521,24 +521,35 @@ def small_puts(program, rounds, warm=1_000, many=20_000, wanted=48_000_000):
     return holds
 
 
-def same_patches(program, rounds, many=7, wanted=60_000_000):
-    """The most memory that the page of what was asked keeps of PATCHes of 1 MiB that say one triple again and again. Three fill a page."""
-    text = f"INSERT DATA {{ <a:a> <a:b> {','.join(['1'] * 520_000)} }}"
-    grown = []
-    for _ in range(rounds):
-        with Server(program) as server:
-            client = Client(server)
-            client.status(put("/graphs/one", [line(P, Q, R)]))
-            before = server.resident_bytes()
-            sizes = []
-            for _ in range(many):
-                if client.status(request("PATCH", "/graphs/one", "application/sparql-update", text)) != 204:
-                    raise SystemExit("a PATCH was not answered 204")
-                sizes.append(server.resident_bytes())
-            grown.append(max(sizes) - before)
-    holds = min(grown) <= wanted
-    print(f"{many} PATCHes of 520,000 times one triple: at most {min(grown) / 1e6:.1f} MB more (at most {wanted / 1e6:g}){'' if holds else ': MISSED'}", flush=True)
-    return holds
+# A name, and a PATCH of at most 1 MiB: what its operations are kept in is many times its bytes.
+KEPT = [
+    ("520,000 times one triple", f"INSERT DATA {{ <a:a> <a:b> {','.join(['1'] * 520_000)} }}"),
+    ("65,000 operations of nothing", ";".join(["INSERT DATA {}"] * 65_000)),
+    ("68,000 patterns of short names", f"PREFIX p: <http://e/{'a' * 20}> " + ";".join([f"DELETE WHERE {{ {'p: p: p: . ' * 4}}}"] * 17_000)),
+]
+
+
+def same_patches(program, rounds, many=20, wanted=100_000_000):
+    """The most memory that the page of what was asked keeps of PATCHes that come again and again. What a patch has counts eight times there,
+    and an operation 16, so a page keeps few of these."""
+    right = True
+    for name, text in KEPT:
+        grown = []
+        for _ in range(rounds):
+            with Server(program) as server:
+                client = Client(server)
+                client.status(put("/graphs/one", [line(P, Q, R)]))
+                before = server.resident_bytes()
+                sizes = []
+                for _ in range(many):
+                    if client.status(request("PATCH", "/graphs/one", "application/sparql-update", text)) != 204:
+                        raise SystemExit("a PATCH was not answered 204")
+                    sizes.append(server.resident_bytes())
+                grown.append(max(sizes) - before)
+        holds = min(grown) <= wanted
+        right = right and holds
+        print(f"{many} PATCHes of {name}: at most {min(grown) / 1e6:.1f} MB more (at most {wanted / 1e6:g}){'' if holds else ': MISSED'}", flush=True)
+    return right
 
 
 def replaced(program, rounds, wanted=150_000_000):
