@@ -95,8 +95,8 @@ impl<const ENTRIES: usize, const TRIPLES: usize> Page<ENTRIES, TRIPLES> {
     }
 
     /// Stores a call that was decided. Where the page has no room for it, it is turned first; a call that
-    /// counts as more triples than a page holds is not stored, and turns the page. Takes no memory. What a
-    /// short upload brought is copied into spare blocks.
+    /// counts as more triples than a page holds is not stored, and turns the page. Takes no memory, but for
+    /// the list of spare blocks where the page is turned. What a short upload brought is copied into these.
     pub fn add(&mut self, seat: u16, mut request: Request, status: u16)
         ensures { page_of self.new
             ≡ page_after ENTRIES TRIPLES (page_of self.old) (call_of seat request status) }
