@@ -429,6 +429,8 @@ DEAR = [
      f"BASE <http://e/{LONG}>" + " BASE <>" * 12_500, 1.0, 503, 1),
     ("an update of 415 kB, 50,000 of whose terms leave nearly all of its base out", "PATCH", "application/sparql-update",
      f"BASE <http://e/{LONG}/z> INSERT DATA {{ <a:a> <a:b> {','.join(['<../y>'] * 50_000)} }}", 1.0, 204, 2),
+    ("the same with 140,000", "PATCH", "application/sparql-update",
+     f"BASE <http://e/{LONG}/z> INSERT DATA {{ <a:a> <a:b> {','.join(['<../y>'] * 140_000)} }}", 1.0, 503, 1),
     ("an update of 1,041 kB, each word of its patterns a prefix of 65,000 bytes", "PATCH", "application/sparql-update",
      f"PREFIX p: <http://e/{LONG}> " + ";".join([f"DELETE WHERE {{ {'p: p: p: . ' * 4}}}"] * 16_000), 1.0, 503, 1),
     ("a body of 2.1 MB, 200,000 objects by 200 prefixes of 5,000 bytes", "PUT", "text/turtle",

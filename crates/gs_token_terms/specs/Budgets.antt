@@ -10,9 +10,18 @@ most_after n = min (16_777_216 + min (n * 64) (2 ^ 64 - 1)) (2 ^ 64 - 1)
 abbrev pub most_made : Budget → ℕ
 most_made b = min (b.most + 34_359_738_368) (2 ^ 64 - 1)
 
+-- whether so many bytes more may be made
+abbrev pub may_make : Budget → ℕ → Bool
+may_make b n = nat_le (b.made + n) (most_made b)
+
 -- whether so many bytes more may be made and kept
 abbrev pub may_count : Budget → ℕ → Bool
-may_count b n = nat_le (b.used + n) b.most && nat_le (b.made + n) (most_made b)
+may_count b n = nat_le (b.used + n) b.most && may_make b n
+
+-- so many bytes more were made, or they are too many and were not
+abbrev pub MakesBytes : {E : Type 0} → Result (Unit {0}) E → Budget → Budget → ℕ → Type 0
+MakesBytes (Ok u) old new n = (new ≡ record old { made = old.made + n }) × (may_make old n ≡ true)
+MakesBytes (Err e) old new n = (new ≡ old) × (may_make old n ≡ false)
 
 -- so many bytes more were counted, or they are too many and were not
 abbrev pub CountsBytes : {E : Type 0} → Result (Unit {0}) E → Budget → Budget → ℕ → Type 0

@@ -1,6 +1,6 @@
 //! How much the texts of a request may take.
 ghost use Rattle.std.specs.Prelude.{◌≡◌, ◌+◌, ◌≤◌, ◌<◌, IfSome, IfNone};
-ghost use Rattle.gs_token_terms.specs.Budgets.{most_after, CountsBytes, traded};
+ghost use Rattle.gs_token_terms.specs.Budgets.{most_after, most_made, CountsBytes, MakesBytes, traded};
 
 use std::alloc::AllocError;
 
@@ -53,16 +53,43 @@ impl Budget {
         self.most = FIRST_BYTES.saturating_add(end.saturating_mul(BYTES_FOR_ONE));
     }
 
+    /// How many bytes were made once so many more are, unless these are too many.
+    #[inline]
+    fn made_with(&self, bytes: usize) -> Option<u64>
+        ensures some { IfSome result (λ s. (s ≡ self.now.made + bytes) × (s ≤ most_made self.now)) }
+        ensures none { IfNone result (most_made self.now < self.now.made + bytes) }
+    {
+        sum_within(
+            self.made,
+            bytes as u64,
+            self.most.saturating_add(BYTES_MADE),
+        )
+    }
+
+    /// So many bytes more were made, of which none is kept. Where too many were made, they are refused as for
+    /// want of memory, and not counted.
+    #[inline]
+    pub fn make(&mut self, bytes: usize) -> Result<(), AllocError>
+        ensures { MakesBytes result self.old self.new bytes }
+    {
+        match self.made_with(bytes) {
+            Some(made) => {
+                self.made = made;
+                Ok(())
+            }
+            None => Err(AllocError),
+        }
+    }
+
     /// So many bytes more of texts. Where they are too many, or too many were made, they are refused as for
     /// want of memory, and not counted.
     #[inline]
     pub fn count(&mut self, bytes: usize) -> Result<(), AllocError>
         ensures { CountsBytes result self.old self.new bytes }
     {
-        let most_made = self.most.saturating_add(BYTES_MADE);
         match (
             sum_within(self.used, bytes as u64, self.most),
-            sum_within(self.made, bytes as u64, most_made),
+            self.made_with(bytes),
         ) {
             (Some(used), Some(made)) => {
                 self.used = used;

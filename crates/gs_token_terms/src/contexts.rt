@@ -5,12 +5,13 @@ ghost use Rattle.gs_model.specs.Terms.{Iri};
 ghost use Rattle.gs_model.specs.Triples.{is_iri};
 ghost use Rattle.gs_iri.specs.Resolving.{resolved};
 ghost use Rattle.gs_escape.specs.Tokens.{iri_of, split_at_colon};
-ghost use Rattle.gs_token_terms.specs.Contexts.{Yields};
+ghost use Rattle.gs_token_terms.specs.Contexts.{base_cost, CountsBase, CountsDeclared, Yields};
 
 use crate::budgets::Budget;
 use crate::iris::{expanded, fit, named_iri, resolved_iri};
 use crate::plain::plain_reference;
 use crate::prefixes::Prefixes;
+use crate::references::has_scheme;
 use crate::symbols::TermToken;
 use gs_model::{Fault, memory_apart};
 use gs_term::TermText;
@@ -19,14 +20,42 @@ use std::alloc::{AllocError, Global};
 /// The most bytes of a base: twice as many as a term may have.
 const MAX_BASE_BYTES: usize = 131_072;
 
+/// The most bytes of a base for which nothing counts: to go through it takes no longer than a reference does.
+const SHORT_BASE_BYTES: usize = 128;
+
+/// How many bytes that are made a byte of a longer base counts, where a reference is resolved.
+const BYTES_FOR_BYTE: usize = 4;
+
+/// And a '/', which ends a segment: each one is appended by itself.
+const BYTES_FOR_SEGMENT: usize = 12;
+
 /// The base and the prefixes in force, and the request whose blank nodes are numbered.
 #[derive(Drop)]
 pub struct Context {
     alloc: Global,
     base: String,
+    /// What it counts to go through the base.
+    cost: usize,
     prefixes: Prefixes,
     pub request: u64,
+    ghost costs: { cost ≡ base_cost (string_bytes base) },
     ghost absolute: { is_absolute (string_bytes base) ≡ true },
+}
+
+/// What it counts to go through a base.
+fn cost_of(base: &str) -> usize
+    ensures { result ≡ base_cost base.now }
+{
+    let mut cost = 0usize;
+    for byte in base.as_bytes() {
+        let one = if *byte == b'/' {
+            BYTES_FOR_SEGMENT
+        } else {
+            BYTES_FOR_BYTE
+        };
+        cost = cost.saturating_add(one);
+    }
+    cost
 }
 
 /// Where the first colon stands.
@@ -70,13 +99,26 @@ impl Context {
         requires { is_absolute base.now ≡ true }
         ensures { IfOk result (λ c. context_of c ≡ without_prefixes of_terms base.now request) }
     {
+        let cost = cost_of(base);
         let base = String::from_str(alloc, base)?;
         Ok(Context {
             alloc,
             base,
+            cost,
             prefixes: Prefixes::new(alloc),
             request,
         })
+    }
+
+    /// The text of a reference is to be resolved: what reading the base takes counts among what is made.
+    #[inline]
+    pub fn count_base(&self, budget: &mut Budget, text: &str) -> Result<(), AllocError>
+        ensures { CountsBase result (string_bytes self.now.base) text.now budget.old budget.new }
+    {
+        if self.base.len() <= SHORT_BASE_BYTES || has_scheme(text) {
+            return Ok(());
+        }
+        budget.make(self.cost)
     }
 
     /// The IRI that a reference means, which is absolute as the base is.
@@ -178,12 +220,14 @@ impl Context {
         prefix: &str,
         text: &str,
     ) -> Result<bool, AllocError>
-        ensures { ChangesContext result (context_of self.old) (context_of self.new)
+        ensures context { ChangesContext result (context_of self.old) (context_of self.new)
             (with_prefix (context_of self.old) prefix.now text.now) }
+        ensures counted { CountsDeclared result (string_bytes self.old.base) text.now budget.old budget.new }
     {
         let Some((prefix, _)) = parts(prefix) else {
             return Ok(false);
         };
+        self.count_base(budget, text)?;
         let Some(mut iri) = self.resolve(text)? else {
             return Ok(false);
         };
@@ -198,9 +242,11 @@ impl Context {
     /// memory, since each relative reference goes through it.
     #[tactic(auto, unfolding(gs_triples::specs::Directives::with_base))]
     pub fn set_base(&mut self, budget: &mut Budget, text: &str) -> Result<bool, AllocError>
-        ensures { ChangesContext result (context_of self.old) (context_of self.new)
+        ensures context { ChangesContext result (context_of self.old) (context_of self.new)
             (with_base (context_of self.old) text.now) }
+        ensures counted { CountsDeclared result (string_bytes self.old.base) text.now budget.old budget.new }
     {
+        self.count_base(budget, text)?;
         let Some(mut base) = self.resolve(text)? else {
             return Ok(false);
         };
@@ -209,6 +255,7 @@ impl Context {
         }
         budget.count(base.len())?;
         fit(&mut base);
+        self.cost = cost_of(base.as_str());
         self.base = base;
         Ok(true)
     }

@@ -1,6 +1,39 @@
-//! References that mean themselves under each base.
+//! References that mean themselves under each base, and those that need none.
 ghost use Rattle.std.specs.Prelude.{◌≡◌, true, false};
-ghost use Rattle.gs_token_terms.specs.References.{has_dot_after, IsItself};
+ghost use Rattle.gs_model.specs.Iris.{is_scheme_char};
+ghost use Rattle.gs_token_terms.specs.References.{ends_scheme, has_scheme, has_dot_after, IsItself};
+
+/// A byte that a scheme may have after its first.
+fn is_scheme_byte(b: u8) -> bool
+    ensures { result ≡ is_scheme_char b }
+{
+    matches!(b, b'A'..=b'Z' | b'a'..=b'z' | b'0'..=b'9' | b'+' | b'-' | b'.')
+}
+
+/// Whether the first byte that no scheme has is a ':'.
+fn ends_scheme(bytes: &[u8]) -> bool
+    ensures { result ≡ ends_scheme bytes.now }
+{
+    for b in bytes {
+        if *b == b':' {
+            return true;
+        }
+        if !is_scheme_byte(*b) {
+            return false;
+        }
+    }
+    false
+}
+
+/// Whether a reference has a scheme after its bracket. It looks at no byte behind that.
+pub(crate) fn has_scheme(text: &str) -> bool
+    ensures { result ≡ has_scheme text.now }
+{
+    match text.as_bytes() {
+        [_, first, rest @ ..] => first.is_ascii_alphabetic() && ends_scheme(rest),
+        _ => false,
+    }
+}
 
 /// Whether a '.' stands right after a '/' or a ':'. It looks at all bytes, so that a compiler may
 /// test several at once.

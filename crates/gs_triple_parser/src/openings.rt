@@ -135,6 +135,7 @@ impl<L: Language> TripleParser<L> {
     pub fn open(&mut self, symbol: Symbol) -> Result<(), AllocError>
         ensures { Reaches L.language result self.new (opening_of L.language self.old symbol.entry) }
     {
+        self.count_symbol(symbol)?;
         match symbol {
             Symbol::Term(token) => return self.open_word(token),
             Symbol::Open => self.open_brackets(),

@@ -8,7 +8,7 @@ use crate::stacks::Stack;
 use gs_model::Fault;
 use gs_term::TermText;
 use gs_triple_values::terms::blank;
-use gs_triple_values::{Allowed, Language, Pending, put_first, put_rest};
+use gs_triple_values::{Allowed, Language, Pending, Symbol, TermToken, put_first, put_rest};
 use std::alloc::{AllocError, Global};
 
 /// What a symbol does: it is taken, or the triples are over before it.
@@ -37,6 +37,7 @@ pub struct TripleParser<L: Language> {
 impl<L: Language> TripleParser<L> {
     ghost use Rattle.gs_triples.specs.States.{Lost};
     ghost use Rattle.gs_triple_parser.specs.Views.{triples_state};
+    ghost use Rattle.gs_triple_parser.specs.Counts.{CountsSymbol};
     ghost use Rattle.gs_triple_parser.specs.Machine.{Reaches, given_slot, given_top, given_opening, put_slot};
 
     /// After this fault nothing is read until triples open.
@@ -44,6 +45,27 @@ impl<L: Language> TripleParser<L> {
         ensures { triples_state L.language self.new ≡ Lost fault }
     {
         self.place = Place::Lost(fault);
+    }
+
+    /// A symbol comes, and counts what it takes to read the base for it.
+    #[inline]
+    pub(crate) fn count_symbol(&mut self, symbol: Symbol) -> Result<(), AllocError>
+        ensures counted { CountsSymbol result self.old.scope.context symbol.entry
+            self.old.scope.budget self.new.scope.budget }
+        ensures kept { self.new ≡ record self.old
+            { scope = record self.old.scope { budget = self.new.scope.budget } } }
+    {
+        match symbol {
+            Symbol::Term(TermToken::Reference(text, _)) => {
+                let Scope {
+                    context,
+                    budget,
+                    ..
+                } = &mut self.scope;
+                context.count_base(budget, text)
+            }
+            _ => Ok(()),
+        }
     }
 
     /// A value after another one of a collection.

@@ -115,11 +115,10 @@ impl<L: Language> TripleParser<L> {
         self.put(slot, made)
     }
 
-    /// One symbol more: it is taken, or the triples are over before it. After a refusal the parser
-    /// is of no more use.
+    /// One symbol more, which was counted.
     #[inline]
     #[tactic(auto, unfolding(gs_triples::specs::Machine::step))]
-    pub fn step(&mut self, symbol: Symbol) -> Result<Turn, AllocError>
+    fn take(&mut self, symbol: Symbol) -> Result<Turn, AllocError>
         ensures { Turned L.language result self.new
             (machine.step (triples_state L.language self.old) (symbol_at symbol.entry)) }
     {
@@ -132,5 +131,16 @@ impl<L: Language> TripleParser<L> {
             Place::Lost(fault) => self.lose(fault),
         }
         Ok(Turn::Taken)
+    }
+
+    /// One symbol more: it is taken, or the triples are over before it. After a refusal the parser
+    /// is of no more use.
+    #[inline]
+    pub fn step(&mut self, symbol: Symbol) -> Result<Turn, AllocError>
+        ensures { Turned L.language result self.new
+            (machine.step (triples_state L.language self.old) (symbol_at symbol.entry)) }
+    {
+        self.count_symbol(symbol)?;
+        self.take(symbol)
     }
 }

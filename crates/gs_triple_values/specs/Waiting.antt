@@ -19,12 +19,14 @@ module _ {L S V X T K : Type 0} where
     pub alone : by_themselves p < 63 → (by_themselves q ≡ by_themselves p + 1) × (new.used ≡ old.used + n)
     pub most : new.used ≤ old.used + n
     pub least : old.used ≤ new.used + counted_for p
+    pub made : new.made ≡ old.made + n
     pub limit : new.most ≡ old.most
 
 -- at most so many bytes are taken off
 pub record TakesOff (old new : Budget) (n : ℕ) : Type 0 where
   pub most : new.used ≤ old.used
   pub least : old.used ≤ new.used + n
+  pub made : new.made ≡ old.made
   pub limit : new.most ≡ old.most
 
 -- in a language of the code

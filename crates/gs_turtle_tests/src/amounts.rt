@@ -8,11 +8,11 @@ use std::test::Fail;
 /// The lengths of pieces in bytes; the first is whole.
 const LENGTHS: [usize; 2] = [usize::MAX, 4_096];
 
-/// How often `x` stands in the long name, after `http://e/`.
+/// How often a letter stands in the long name, after `http://e/`.
 const LETTERS: usize = 64_989;
 
-/// What stands before these letters and after them.
-type Front = (&'static str, &'static str);
+/// What stands before these letters, the letter, and what stands after them.
+type Front = (&'static str, &'static str, &'static str);
 
 /// What is repeated, how often, how many spaces follow, and the end. A `#` is another number each time, of
 /// three digits.
@@ -29,34 +29,34 @@ const TOO_MUCH: Result<usize, Refusal> = Err(Refusal::NoMemory);
 /// takes 130,008. These are 21,061,074 bytes. The first object ends after 65,027 bytes, and each further
 /// one 6 later; the last triple counts at the dot, after 179 spaces more 21,061,056 may be, after 180 more
 /// 21,061,120. With 256 triples and no more the last 64 wait: 20,931,130 bytes, and 21,036,928 may be.
-const OBJECTS: Front = ("@prefix p: <http://e/", "> . p: <a:b> p:99");
+const OBJECTS: Front = ("@prefix p: <http://e/", "x", "> . p: <a:b> p:99");
 
 /// A long subject with a short object again and again: what comes again is free.
-const SUBJECT: Front = ("@prefix p: <http://e/", "> . p: <a:b> <a:b>");
+const SUBJECT: Front = ("@prefix p: <http://e/", "x", "> . p: <a:b> <a:b>");
 
 /// A statement of 20 bytes for each long name, after 65,013 bytes. 327: some 21,320,990 bytes, and
 /// 21,356,608 may be. 328: some 21,385,990, and 21,357,888 may be. Or statements of one long name, which
 /// counts once.
-const STATEMENTS: Front = ("@prefix p: <http://e/", "> .");
+const STATEMENTS: Front = ("@prefix p: <http://e/", "x", "> .");
 
 /// Prefixes, each the long name, which is the base, and counts for this too. The first one's reference ends
 /// after 65,022 bytes, and each further one 16 bytes later. 326: 21,254,346 bytes, and 21,271,424 may be.
 /// 327: 21,319,344, and 21,272,448 may be. Or the same base again: its first reference ends after 65,017
 /// bytes, and each further one 11 bytes later. 324: 21,124,350 bytes, and 21,165,696 may be. 325:
 /// 21,189,348, and 21,166,400 may be.
-const BASE: Front = ("@base <http://e/", "> .");
+const BASE: Front = ("@base <http://e/", "x", "> .");
 
 /// A collection of long names, of which each counts once it is read, and its cells do not until they join
 /// the list. The first one ends after 65,033 bytes, and each further one 6 bytes later. 322: some 20,996,000
 /// bytes, and 21,062,592 may be.
-const COLLECTION: Front = ("@prefix p: <http://e/", "> . <a:b> <a:b> (");
+const COLLECTION: Front = ("@prefix p: <http://e/", "x", "> . <a:b> <a:b> (");
 
 /// A statement of 64 long names, which join a list. It takes 4,160,320 bytes and is 526 long. After the
 /// fifth some 20,867,400 bytes are taken, and 21,106,368 may be; in the sixth some 25,027,700, and
 /// 21,140,032. The first one may become the document's list, or join one that has a triple.
-const LISTS: Front = ("@prefix p: <http://e/", "> .");
+const LISTS: Front = ("@prefix p: <http://e/", "x", "> .");
 
-const LISTS_AFTER: Front = ("@prefix p: <http://e/", "> . <a:b> <a:b> <a:b> .");
+const LISTS_AFTER: Front = ("@prefix p: <http://e/", "x", "> . <a:b> <a:b> <a:b> .");
 
 const NAMES: &str =
     " <a:b> <a:b> p:#00,p:#01,p:#02,p:#03,p:#04,p:#05,p:#06,p:#07,p:#08,p:#09,p:#10,p:#11,\
@@ -81,9 +81,19 @@ const ONES: &str = " p: <a:b> 1,1,1,1,1,1,1,1,1,1,1,1,1,1,1,1,1,1,1,1,1,1,1,1,1,
     1,1,1,1,1,1,1,1,1,1,1,1,1,1,1,1,1,1,1,1,1,1,1,1,1,1,1,1,1,1 .";
 
 /// A base that letters follow: 66,074 of them make it 131,072 bytes, as many as a base may have.
-const LONG_BASE: Front = ("@base <http://e/", "");
+const LONG_BASE: Front = ("@base <http://e/", "x", "");
 
-const ROWS: [Row; 21] = [
+/// A base that goes on with as many '/', and counts 779,928 bytes that are made for each reference without a
+/// scheme: 12 for each of its 64,992 '/', and 4 for each of the 6 other bytes. So it is with one whose scheme
+/// an escape hides, which takes no time. What is repeated has 63 bytes and four of these, and makes 22 bytes of
+/// texts. 34,359,738,368 bytes more may be made than may be kept. After 11,034 times 1,955,230 are left; once
+/// more the verb would take 381,613 too many.
+const SLASHES: Front = ("@base <http://e/", "/", "> .");
+
+/// In the places of a prefix, a subject, a verb and a datatype.
+const REFERENCES: &str = " @prefix p: <\\u0061:b> . <\\u0061:b> <\\u0061:b> \"\"^^<\\u0061:b> .";
+
+const ROWS: [Row; 23] = [
     (OBJECTS, (",p:#", 255, 0, "."), Ok(256)),
     (OBJECTS, (",p:#", 288, 179, "."), TOO_MUCH),
     (OBJECTS, (",p:#", 288, 180, "."), Ok(289)),
@@ -105,6 +115,8 @@ const ROWS: [Row; 21] = [
     (LONG_BASE, ("y", 66_074, 0, "> ."), Ok(0)),
     (LONG_BASE, ("y", 66_075, 0, "> ."), TOO_MUCH),
     (COLLECTION, (" p:#", 322, 0, " ) ."), Ok(645)),
+    (SLASHES, (REFERENCES, 11_034, 0, ""), Ok(11_034)),
+    (SLASHES, (REFERENCES, 11_035, 0, ""), TOO_MUCH),
 ];
 
 /// Adds a piece, with a number of three digits in the place of each `#`.
@@ -121,8 +133,8 @@ fn push_piece(piece: &str, number: usize, text: &mut String) -> Result<(), Alloc
 /// The text of a row.
 fn text_of(alloc: Global, front: &Front, rest: &Rest) -> Result<String, AllocError> {
     let mut text = String::from_str(alloc, front.0)?;
-    text.push_str("x".repeat(alloc, LETTERS)?.as_str())?;
-    text.push_str(front.1)?;
+    text.push_str(front.1.repeat(alloc, LETTERS)?.as_str())?;
+    text.push_str(front.2)?;
     for number in 100..rest.1.saturating_add(100) {
         push_piece(rest.0, number, &mut text)?;
     }
