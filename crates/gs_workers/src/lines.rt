@@ -4,7 +4,7 @@ ghost use Rattle.std.specs.Prelude.{◌≤◌, length, IfOk};
 use crate::heads::Heading;
 use crate::queues::Queue;
 use crate::states::State;
-use crate::ways::{Way, has_waited, read_wait, waits_in};
+use crate::ways::{Way, has_waited, read_wait, waits_in, way_in_vain};
 use gs_gates::{Others, share};
 use std::io;
 use std::io::{ErrorKind, Read, Write};
@@ -76,18 +76,17 @@ impl<'a, K: Clock> Line<'a, K> {
         }
     }
 
-    /// Whether it goes on to wait for its next request, after one read waited in vain.
+    /// Whether it goes on to wait, after one read waited in vain.
     fn stays(&self) -> bool {
-        let idle = self.idle_time();
-        if idle >= self.patience {
-            self.state.way.set(Way::Idle);
-            return false;
+        let is_between = self.state.is_between.get();
+        let is_stale = is_between && self.idle_time() >= self.patience;
+        match way_in_vain(is_between, is_stale, self.others.has_others()) {
+            None => true,
+            Some(way) => {
+                self.state.way.set(way);
+                false
+            }
         }
-        if self.others.has_others() {
-            self.state.way.set(Way::Waits);
-            return false;
-        }
-        true
     }
 
     /// Whether it gives way before it is read again; else how long one read may wait is set.
@@ -152,6 +151,9 @@ impl<'a, K: Clock> Line<'a, K> {
             match stream.read(space) {
                 Err(error) if has_waited(&error) => {}
                 other => return other,
+            }
+            if !self.stays() {
+                return Ok(0);
             }
         }
         Err(io::Error::from(ErrorKind::TimedOut))

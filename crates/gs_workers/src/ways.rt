@@ -1,4 +1,7 @@
 //! How long reads of the system wait, and what becomes of a connection.
+ghost use Rattle.std.specs.Prelude.{◌≡◌};
+ghost use Rattle.gs_workers.specs.Ways.{way_in_vain};
+
 use gs_gates::idleness;
 use std::io;
 use std::io::ErrorKind;
@@ -29,6 +32,22 @@ pub(crate) enum Way {
     Waits,
     /// It was idle, and ends.
     Idle,
+}
+
+/// What becomes of a connection at which one read waited in vain, if it does not stay: whether it is between
+/// two requests, whether it was idle for as long as it may be, and whether others wait.
+pub(crate) fn way_in_vain(is_between: bool, is_stale: bool, has_others: bool) -> Option<Way>
+    ensures { result ≡ way_in_vain is_between is_stale has_others }
+{
+    if !is_between {
+        None
+    } else if is_stale {
+        Some(Way::Idle)
+    } else if has_others {
+        Some(Way::Waits)
+    } else {
+        None
+    }
 }
 
 /// Whether a read or a write of the system waited for as long as it may.

@@ -159,8 +159,13 @@ const PARTS: [Part; 14] = [
     },
 ];
 
-/// Says a part, and whether it is answered so. Then nothing is said for longer than a worker serves a
-/// connection while others wait.
+/// How long nothing is said after a part, in milliseconds: longer than a worker serves a connection while
+/// others wait, and where a request is under way, longer than one read waits.
+fn rest_after(part: &Part) -> u64 {
+    if part.replies == 0 { 1_200 } else { 50 }
+}
+
+/// Says a part, and whether it is answered so. Then nothing is said for a while.
 fn is_answered<K: Clock>(rt: &K, stream: &TcpStream, part: &Part) -> io::Result<bool> {
     say(stream, part.said)?;
     for _ in 0..part.replies {
@@ -168,7 +173,7 @@ fn is_answered<K: Clock>(rt: &K, stream: &TcpStream, part: &Part) -> io::Result<
             return Ok(false);
         }
     }
-    thread::sleep(rt, Duration::from_millis(50));
+    thread::sleep(rt, Duration::from_millis(rest_after(part)));
     Ok(true)
 }
 
