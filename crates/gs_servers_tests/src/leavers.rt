@@ -88,8 +88,9 @@ impl<'a, K: Clock> Gate for Leave<'a, K> {
     }
 }
 
-/// The bytes of a text in each line. A piece of two such lines is too long to wait for the next one.
-const LINE_BYTES: usize = 4_096;
+/// The bytes of a text that each line has twice. A piece of two such lines has 140,000 bytes, and is too long to
+/// wait for the next one.
+const LINE_BYTES: usize = 35_000;
 
 /// The five lines of a graph, which is read in three pieces.
 fn five_lines(alloc: Global) -> Result<String, AllocError> {
@@ -99,7 +100,7 @@ fn five_lines(alloc: Global) -> Result<String, AllocError> {
     }
     let mut lines = String::new(alloc);
     for line in 0..5 {
-        let text = format!(in alloc; "<a:a> <a:b> \"{line}{long}\" .\n")?;
+        let text = format!(in alloc; "<a:{long}> <a:b> \"{line}{long}\" .\n")?;
         lines.push_str(text.as_str())?;
     }
     Ok(lines)

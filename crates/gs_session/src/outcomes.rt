@@ -1,5 +1,5 @@
 //! What an answer of the store leads to.
-ghost use Rattle.std.specs.Prelude.{◌≡◌, ◌++◌, [], None, IfOk};
+ghost use Rattle.std.specs.Prelude.{◌≡◌, ◌++◌, [], None, IfOk, OnOk, OnErr};
 ghost use Rattle.gs_reply.specs.Notices.{notice_of};
 ghost use Rattle.gs_reply.specs.Replies.{chunk, lines_head};
 ghost use Rattle.gs_talk.specs.Moves.{last_if};
@@ -171,16 +171,33 @@ pub fn after_pin(alloc: Global, asked: Asked, answer: &Answer) -> Next
     }
 }
 
-/// What was due, a piece of a read as a chunk, and after the last piece the last chunk: in the
-/// piece's own memory, where that has room.
-fn piece_text(alloc: Global, due: &[u8], lines: Vec<u8>, end: bool) -> Result<Vec<u8>, AllocError>
-    ensures { IfOk result (λ text. text.items ≡ due.now ++ (chunk lines.items ++ last_if end)) }
+/// A store makes the lines of a piece with room for 256 bytes more, as for a head that is due.
+const FEW_BYTES: usize = 256;
+
+/// A text, a piece of a read as a chunk, and after the last piece the last chunk: in the piece's own
+/// memory, where that has room.
+fn piece_text(alloc: Global, text: &[u8], lines: Vec<u8>, end: bool) -> Result<Vec<u8>, AllocError>
+    ensures { IfOk result (λ all. all.items ≡ text.now ++ (chunk lines.items ++ last_if end)) }
 {
-    let mut text = chunk_after(alloc, due, lines)?;
+    let mut all = chunk_after(alloc, text, lines)?;
     if end {
-        push_last_chunk(&mut text)?;
+        push_last_chunk(&mut all)?;
     }
-    Ok(text)
+    Ok(all)
+}
+
+/// Adds a piece of a read as a chunk to what is due, and after the last piece the last chunk. Where memory
+/// is refused, what is due stays.
+fn push_piece(alloc: Global, due: &mut Vec<u8>, lines: Vec<u8>, end: bool) -> Result<(), AllocError>
+    ensures ok { OnOk result (due.new.items ≡ due.old.items ++ (chunk lines.items ++ last_if end)) }
+    ensures err { OnErr result (due.new.items ≡ due.old.items) }
+{
+    if due.len() <= FEW_BYTES {
+        *due = piece_text(alloc, due.as_slice(), lines, end)?;
+        return Ok(());
+    }
+    let text = piece_text(alloc, b"", lines, end)?;
+    due.extend_from_slice(text.as_slice())
 }
 
 /// What comes after a piece.
@@ -209,18 +226,14 @@ fn without_lines(asked: Asked, end: bool) -> Phase
 pub fn after_piece(alloc: Global, asked: Asked, due: Vec<u8>, answer: Answer) -> Next
     ensures { AfterPiece asked due.items answer result }
 {
+    let mut due = due;
     match answer {
         Answer::Lines(lines, end) => {
-            match piece_text(alloc, due.as_slice(), lines, end) {
-                Ok(text) => Next {
-                    phase: after_lines(asked, end),
-                    said: text,
-                },
-                Err(_) => Next {
-                    phase: without_lines(asked, end),
-                    said: due,
-                },
-            }
+            let phase = match push_piece(alloc, &mut due, lines, end) {
+                Ok(()) => after_lines(asked, end),
+                Err(_) => without_lines(asked, end),
+            };
+            Next { phase, said: due }
         }
         Answer::Refused(Refusal::NoMemory) => Next {
             phase: Phase::Serving(asked, Work::Cutting),

@@ -26,16 +26,22 @@ pub enum ServeFault {
 /// The most bytes of one read.
 const READ_BYTES: usize = 8_192;
 
+/// The room for one read. It is made once for a connection, since filling it takes longer than most reads.
+type Space = [u8; READ_BYTES];
+
 /// Gives the session what a read gives. One that was interrupted gives nothing.
-fn read_more<R: Read>(session: &mut Session, reader: &mut R) -> Result<(), ServeFault>
+fn read_more<R: Read>(
+    session: &mut Session,
+    reader: &mut R,
+    space: &mut Space,
+) -> Result<(), ServeFault>
     requires { session.old.ended ≡ false }
     ensures ok { OnOk result (ReadsInput session.old session.new (R.remaining reader.old)
         (R.remaining reader.new)) }
     ensures err { OnErr result (Loses session.old session.new (R.remaining reader.old)
         (R.remaining reader.new)) }
 {
-    let mut space = [0u8; READ_BYTES];
-    match reader.read(&mut space) {
+    match reader.read(space) {
         Ok(0) => session.end_of_input(),
         Ok(count) => match session.give(&space[..count]) {
             Ok(()) => {}
@@ -55,6 +61,7 @@ fn await_input<R: Read, W: Write>(
     session: &mut Session,
     reader: &mut R,
     writer: &mut W,
+    space: &mut Space,
 ) -> Result<(), ServeFault>
     requires { session.old.ended ≡ false }
     ensures ok { OnOk result (ReadsInput session.old session.new (R.remaining reader.old)
@@ -64,7 +71,7 @@ fn await_input<R: Read, W: Write>(
     ensures keeps { Keeps (W.contents writer.old) (W.contents writer.new) }
 {
     match writer.flush() {
-        Ok(()) => read_more(session, reader),
+        Ok(()) => read_more(session, reader, space),
         Err(_) => Err(ServeFault::Write),
     }
 }
@@ -74,6 +81,7 @@ fn round<R: Read, W: Write, D: Door>(
     session: &mut Session,
     reader: &mut R,
     writer: &mut W,
+    space: &mut Space,
     door: &mut D,
 ) -> Result<bool, ServeFault>
     ensures goes { result ≡ Ok false → Comes D.Gives session.old
@@ -103,7 +111,7 @@ fn round<R: Read, W: Write, D: Door>(
                 Err(ServeFault::Write)
             }
         }
-        Turn::NeedInput => match await_input(session, reader, writer) {
+        Turn::NeedInput => match await_input(session, reader, writer, space) {
             Ok(()) => Ok(false),
             Err(fault) => {
                 session.abandon(door);
@@ -129,8 +137,9 @@ fn rounds<R: Read, W: Write, D: Door>(
         (R.remaining reader.new) (W.contents writer.new) door.new
         (λ p seat. Quit p (R.remaining reader.new))) }
 {
+    let mut space = [0u8; READ_BYTES];
     for _ in 0..u64::MAX {
-        match round(session, reader, writer, door) {
+        match round(session, reader, writer, &mut space, door) {
             Ok(true) => return Ok(()),
             Ok(false) => {}
             Err(fault) => return Err(fault),

@@ -18,8 +18,9 @@ use gs_event::Action;
 use std::alloc::{AllocError, Global};
 use std::mem;
 
-/// A text that is shorter waits for the next piece of its read, so that a small reply is one write.
-const SHORT_BYTES: usize = 4_096;
+/// A text that is shorter waits for the next piece of its read, so that a small reply is one write, and a
+/// large one takes few.
+const SHORT_BYTES: usize = 131_072;
 
 /// What a turn did.
 #[derive(Drop)]
@@ -133,9 +134,9 @@ impl Session {
         self.rest()
     }
 
-    /// In a read the next piece joins what is due, which is little; whether this is one.
+    /// In a read the next piece joins what is due, which is short; whether this is one.
     fn gather<D: Door>(&mut self, door: &mut D) -> bool
-        requires { length self.old.due.items < 4096 }
+        requires { length self.old.due.items < 131072 }
         ensures turns { result ≡ true
             → MakesTurn D.Gives self.old door.old Turn.Made self.new door.new }
         ensures stays { result ≡ false → (self.new ≡ self.old) × (door.new ≡ door.old) }
@@ -156,9 +157,9 @@ impl Session {
         }
     }
 
-    /// Whether something is due, and little.
+    /// Whether something is due, and short.
     fn is_short(&self) -> bool
-        ensures { result ≡ true → length self.now.due.items < 4096 }
+        ensures { result ≡ true → length self.now.due.items < 131072 }
     {
         !self.due.is_empty() && self.due.len() < SHORT_BYTES
     }

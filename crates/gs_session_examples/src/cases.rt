@@ -3,7 +3,7 @@ use gs_test_texts::push_bytes;
 use std::alloc::{AllocError, Global};
 
 /// A reply of fewer bytes is one write.
-const GATHERED_BYTES: usize = 4_096;
+const GATHERED_BYTES: usize = 131_072;
 
 /// Where what a client sends at once ends in its input, and where what is said to that ends in the
 /// output.
