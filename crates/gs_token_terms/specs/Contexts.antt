@@ -18,7 +18,7 @@ TermContext = Context Term RdfTriple
 abbrev pub Yields : {Y E : Type 0} → Result (Option (String Y)) E → Option (List ℕ) → Type 0
 Yields r x = IfOk r (λ o. option_map string_bytes o ≡ x)
 
--- whether a reference's token counts for the base: it has no scheme, and the base has more than 128 bytes
+-- whether a reference's token counts for the base: it shows no scheme, and the base has more than 128 bytes
 abbrev pub reads_base : (base token : List ℕ) → Bool
 reads_base base x = nat_lt 128 (length base) && not (has_scheme x)
 
@@ -40,7 +40,7 @@ abbrev pub bytes_of_some : Option (List ℕ) → ℕ
 bytes_of_some None = 0
 bytes_of_some (Some x) = length x
 
--- what a declaration's token counts that is resolved: for the base, and then the IRI that it means
+-- what a declaration's token counts once it is resolved: for the base, and the bytes of the IRI that it means
 abbrev pub declared_made : (base token : List ℕ) → ℕ
 declared_made base x = (if reads_base base x then base_cost base else 0) + bytes_of_some (option_map (resolved base) (iri_of x))
 

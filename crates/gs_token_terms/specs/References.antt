@@ -21,7 +21,7 @@ abbrev pub ends_scheme : List ℕ → Bool
 ends_scheme [] = false
 ends_scheme (c ∷ cs) = c == colon || (is_scheme_char c && ends_scheme cs)
 
--- whether a reference's token has a scheme after its bracket (RFC 3986, section 3.1)
+-- whether a reference's token shows a scheme after its bracket (RFC 3986, section 3.1); one that an escape hides does not count
 abbrev pub has_scheme : List ℕ → Bool
 has_scheme (bracket ∷ c ∷ cs) = is_letter c && ends_scheme cs
 has_scheme cs = false

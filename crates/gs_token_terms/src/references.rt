@@ -25,7 +25,7 @@ fn ends_scheme(bytes: &[u8]) -> bool
     false
 }
 
-/// Whether a reference has a scheme after its bracket. It looks at no byte behind that.
+/// Whether a reference has a scheme after its bracket. It looks at no byte after the first that no scheme has.
 pub(crate) fn has_scheme(text: &str) -> bool
     ensures { result ≡ has_scheme text.now }
 {

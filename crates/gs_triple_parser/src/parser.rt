@@ -47,7 +47,7 @@ impl<L: Language> TripleParser<L> {
         self.place = Place::Lost(fault);
     }
 
-    /// A symbol comes, and counts what it takes to read the base for it.
+    /// A symbol comes, and counts what it may take to read the base for it.
     #[inline]
     pub(crate) fn count_symbol(&mut self, symbol: Symbol) -> Result<(), AllocError>
         ensures counted { CountsSymbol result self.old.scope.context symbol.entry
