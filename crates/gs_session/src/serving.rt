@@ -26,7 +26,7 @@ pub enum ServeFault {
 /// The most bytes of one read.
 const READ_BYTES: usize = 8_192;
 
-/// The room for one read. It is made once for a connection, since filling it takes longer than most reads.
+/// The room for one read, which is made once for a connection. What an earlier read left there is not looked at.
 type Space = [u8; READ_BYTES];
 
 /// Gives the session what a read gives. One that was interrupted gives nothing.

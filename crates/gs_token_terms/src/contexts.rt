@@ -20,7 +20,7 @@ use std::alloc::{AllocError, Global};
 /// The most bytes of a base: twice as many as a term may have.
 const MAX_BASE_BYTES: usize = 131_072;
 
-/// The most bytes of a base for which nothing counts: to go through it takes no longer than a reference does.
+/// The most bytes of a base for which nothing counts: to go through it takes some microseconds.
 const SHORT_BASE_BYTES: usize = 128;
 
 /// How many bytes that are made a byte of a longer base counts, where a reference is resolved.
