@@ -68,6 +68,25 @@ fn subject_number(
     }
 }
 
+/// A number of the predicate of a triple whose subject has this number. Where the triple before has another
+/// subject, it is often that of the triple before; triples of one subject mostly have other predicates.
+fn predicate_number(
+    table: &mut TermTable,
+    numbers: &[TripleNumbers],
+    subject: u32,
+    predicate: TermText,
+) -> Result<u32, AllocError>
+    ensures more { HasMore table.old.terms.items table.new.terms.items }
+    ensures ok { IfOk result (λ n. slice_get table.new.terms.items n ≡ Some predicate) }
+{
+    match numbers.last() {
+        Some(last) if last.subject != subject && table.is_number_of(last.predicate, &predicate) => {
+            Ok(last.predicate)
+        }
+        _ => table.number_of(predicate),
+    }
+}
+
 /// Numbers of a triple's terms, where these triples are in the list.
 fn numbers_of(
     table: &mut TermTable,
@@ -81,7 +100,7 @@ fn numbers_of(
     triple.known();
     let (subject, predicate, object) = triple.into_terms();
     let subject = subject_number(table, numbers, subject)?;
-    let predicate = table.number_of(predicate)?;
+    let predicate = predicate_number(table, numbers, subject, predicate)?;
     let object = table.number_of(object)?;
     Ok(TripleNumbers {
         subject,

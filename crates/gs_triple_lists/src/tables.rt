@@ -9,6 +9,9 @@ use std::hash::{FoldHasher, Hasher};
 /// So many terms come first, and are in no chain: a short list is done before a chain would help.
 const FEW: usize = 16;
 
+/// For so many terms there is room once there is one.
+const FIRST_TERMS: usize = 24;
+
 /// How many buckets there are at first. Each begins a chain, of the terms whose hashes lead to it. When a
 /// term is added while as many are in chains as there are buckets, these become four times as many.
 const FIRST_BUCKETS: usize = 64;
@@ -131,6 +134,9 @@ impl TermTable {
         let Ok(number) = u32::try_from(self.terms.len()) else {
             return Err(AllocError);
         };
+        if self.terms.is_empty() {
+            self.terms.reserve(FIRST_TERMS)?;
+        }
         self.terms.push(term)?;
         Ok(number)
     }

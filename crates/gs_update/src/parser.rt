@@ -23,18 +23,13 @@ pub struct UpdateParser {
     pub(crate) last: u64,
 }
 
-/// A list of so few triples has little room to give back.
-const SHORT: usize = 1_024;
-
-/// The triples of an operation, put in order for the store, with little more room than they and their terms
-/// take, since the history keeps them as they are.
+/// The triples of an operation, put in order for the store, with no more room than they and their terms
+/// take: an update may have very many operations.
 fn settled(mut triples: TripleList) -> Result<TripleList, AllocError>
     ensures { IfOk result (λ l. l ≡ triples) }
 {
     triples.put_in_order()?;
-    if triples.len() > SHORT {
-        triples.shrink_to_fit();
-    }
+    triples.shrink_to_fit();
     Ok(triples)
 }
 
