@@ -9,7 +9,7 @@ use gs_version_models::MOST_FOR_TRIPLE;
 use std::alloc::{AllocError, Global};
 
 /// How many triples each of the two large uploads has.
-const MANY: u64 = 1_000;
+pub const MANY: u64 = 1_000;
 
 /// How many these and the one have.
 const ALL: u64 = 2_001;
@@ -24,18 +24,18 @@ const LISTS: u64 = 10;
 const LIST: u64 = 100;
 
 /// How many lines were given before the other uploads.
-const GIVEN: u64 = 10;
+pub const GIVEN: u64 = 10;
 
 /// How many records there are of one version of the graph, of two, and of three.
-const ONE_VERSION: u64 = 1;
+pub const ONE_VERSION: u64 = 1;
 
-const TWO_VERSIONS: u64 = 2;
+pub const TWO_VERSIONS: u64 = 2;
 
 const THREE_VERSIONS: u64 = 3;
 
 /// Triples have numbers from here on, all of four digits: those of the first upload are even, the one has
 /// the next even number, and those of the last upload are odd.
-const FIRST: u64 = 4_000;
+pub const FIRST: u64 = 4_000;
 
 /// The triple of a number.
 pub fn triple(alloc: Global, number: u64) -> Result<Triple, Refusal> {
@@ -55,7 +55,7 @@ pub fn push_line(text: &mut String, alloc: Global, number: u64) -> Result<(), Al
 }
 
 /// What a piece is to answer: the lines from this number on, so many, at this distance, and then this.
-fn words(
+pub fn words(
     alloc: Global,
     first: u64,
     count: u64,
@@ -83,7 +83,7 @@ fn list(alloc: Global, first: u64) -> Result<TripleList, Refusal> {
 }
 
 /// The same, with so many nodes or records more.
-fn with_more(bounds: Bounds, nodes: u64) -> Bounds {
+pub fn with_more(bounds: Bounds, nodes: u64) -> Bounds {
     Bounds {
         least: bounds.least.saturating_add(nodes),
         most: bounds.most.saturating_add(nodes),
@@ -111,7 +111,7 @@ fn push_stages(
 }
 
 /// Seat 0 puts the even triples.
-fn push_put(alloc: Global, lines: &mut Lines) -> Result<(), Refusal> {
+pub fn push_put(alloc: Global, lines: &mut Lines) -> Result<(), Refusal> {
     let open = Action::Open(UploadKind::Put(target(alloc, Place::A)?), None);
     let opened = Bounds::exactly(1, 0);
     lines.push("Open", Event::Seat(0, open), "opened 1", opened)?;
@@ -122,19 +122,29 @@ fn push_put(alloc: Global, lines: &mut Lines) -> Result<(), Refusal> {
 }
 
 /// What is counted once the even triples were put.
-fn with_many() -> Bounds {
+pub fn with_many() -> Bounds {
     Bounds::exactly(MANY.saturating_add(ONE_VERSION), MANY)
 }
 
 /// Seat 1 begins to read, which is to be answered in these words.
-fn push_pin(alloc: Global, lines: &mut Lines, words: &str, bounds: Bounds) -> Result<(), Refusal> {
+pub fn push_pin(
+    alloc: Global,
+    lines: &mut Lines,
+    words: &str,
+    bounds: Bounds,
+) -> Result<(), Refusal> {
     let pin = Action::Pin(Scope::One(target(alloc, Place::A)?));
     lines.push("Pin", Event::Seat(1, pin), words, bounds)?;
     Ok(())
 }
 
 /// Seat 1 is given so many lines, which are to be these.
-fn push_piece(lines: &mut Lines, count: u32, words: &str, bounds: Bounds) -> Result<(), Refusal> {
+pub fn push_piece(
+    lines: &mut Lines,
+    count: u32,
+    words: &str,
+    bounds: Bounds,
+) -> Result<(), Refusal> {
     let piece = Event::Seat(1, Action::Piece(count));
     lines.push("Piece", piece, words, bounds)?;
     Ok(())

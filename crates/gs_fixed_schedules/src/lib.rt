@@ -10,6 +10,7 @@ mod last;
 mod lines;
 mod rows;
 mod seats;
+mod slow;
 
 pub use conditions::on_condition;
 pub use datasets::{beside_kept_writes, beside_writes, two_versions, without_lines};
@@ -17,3 +18,4 @@ pub use large::large_lines;
 pub use last::{last_node_lines, last_node_posts, last_term_lines};
 pub use lines::Lines;
 pub use seats::seat_lines;
+pub use slow::slow_reader_lines;

@@ -9,7 +9,7 @@ use gs_drawn_schedules::{Judge, Play, Stop, Totals, start_of};
 use gs_event::Limits;
 use gs_fixed_schedules::{
     Lines, beside_kept_writes, beside_writes, large_lines, last_node_lines, last_node_posts,
-    last_term_lines, on_condition, seat_lines, two_versions, without_lines,
+    last_term_lines, on_condition, seat_lines, slow_reader_lines, two_versions, without_lines,
 };
 use gs_version_models::Lie;
 use std::alloc::Global;
@@ -197,6 +197,10 @@ fn play_large(alloc: Global) -> Result<(), Stop> {
     play_lines(&large_lines(alloc)?, Played::whole(alloc, 0)?)
 }
 
+fn play_slow(alloc: Global) -> Result<(), Stop> {
+    play_lines(&slow_reader_lines(alloc)?, Played::whole(alloc, 0)?)
+}
+
 fn play_last_node(alloc: Global) -> Result<(), Stop> {
     play_lines(&last_node_lines(alloc)?, Played::with_last(alloc, 3, 99)?)
 }
@@ -224,6 +228,12 @@ fn print_fixed<W: Write>(name: &str, found: Result<(), Stop>, out: &mut W) -> io
 fn play_fixed<W: Write>(alloc: Global, out: &mut W) -> io::Result<()> {
     let large = play_large(alloc);
     print_fixed("a POST of 1,000 triples under a read", large, out)?;
+    let slow = play_slow(alloc);
+    print_fixed(
+        "a thousand POSTs beside a reader that has stopped",
+        slow,
+        out,
+    )?;
     print_fixed("the last node", play_last_node(alloc), out)?;
     print_fixed("a POST to the last node", play_last_posts(alloc), out)?;
     print_fixed("the last term", play_last_term(alloc), out)?;
