@@ -15,7 +15,7 @@ use Rattle.gs_audit.proofs.PhaseLemmas.{StagedAt}
 pub staged_at : (slot : Slot) → StagedAt (slot_phase slot) (slot_count slot)
 staged_at Empty = refl
 staged_at (Upload u) = tt
-staged_at (Patch t r since) = refl
+staged_at (Patch p) = refl
 
 option_map-some : {X Y : Type 0} (f : X → Y) (o : Option X) (y : Y) → option_map f o ≡ Some y → (x : X) × (o ≡ Some x) × (f x ≡ y)
 option_map-some f None y e = absurd (cc)

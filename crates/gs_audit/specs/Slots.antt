@@ -1,8 +1,7 @@
 -- What a seat has open, and how it follows the seat's phase.
-use Rattle.std.specs.Prelude.{◌≡◌, ℕ, ◌+◌, List, [], Option, Some, None}
-use Rattle.gs_model.specs.Triples.{RdfTriple}
+use Rattle.std.specs.Prelude.{◌≡◌, ℕ, ◌+◌, [], Option, Some, None}
 use Rattle.gs_event.specs.declared.events.Action.{Action}
-use Rattle.gs_event.specs.declared.events.Action.TheVariants.{Stage, Commit, Cancel}
+use Rattle.gs_event.specs.declared.events.Action.TheVariants.{Stage, Commit, CommitPatch, Cancel}
 use Rattle.gs_event.specs.declared.events.Event.{Event}
 use Rattle.gs_event.specs.declared.events.Event.TheVariants.{Seat as At, Reclaim}
 use Rattle.gs_event.specs.declared.answers.Answer.{Answer}
@@ -12,6 +11,7 @@ use Rattle.gs_event.specs.Views.{SeatView}
 use Rattle.gs_chronicle.specs.declared.requests.Request.{Request}
 use Rattle.gs_chronicle.specs.Sizes.{stopped_count, triples_size}
 use Rattle.gs_chronicle.specs.OpenUploads.{triples_so_far, graph_so_far, HasRoomToStage}
+use Rattle.gs_chronicle.specs.OpenPatches.{HasFormsOf}
 use Rattle.gs_chronicle.specs.Requests.{call_of}
 use Rattle.gs_chronicle.specs.Pages.{Decided}
 use Rattle.gs_audit.specs.Decisions.{decided_at}
@@ -29,13 +29,13 @@ open_of (Reading left) = Idle
 abbrev pub slot_phase : Slot → SeatView
 slot_phase Empty = Idle
 slot_phase (Upload u) = Writing u.kind u.request (graph_so_far u) u.since
-slot_phase (Patch t r since) = Patching t r since
+slot_phase (Patch p) = Patching p.target p.request p.since
 
 -- as how many triples what was staged counts, with repeats
 abbrev pub slot_count : Slot → ℕ
 slot_count Empty = 0
 slot_count (Upload u) = triples_size (triples_so_far u)
-slot_count (Patch t r since) = 0
+slot_count (Patch p) = 0
 
 -- a kept phase after an answer
 abbrev pub open_after : SeatView → Action → Answer → SeatView
@@ -48,17 +48,13 @@ count_after (Writing k r g since) n Commit (Status s name number) = 0
 count_after (Writing k r g since) n Cancel Cancelled = 0
 count_after p n action a = n
 
--- the triples of the list that an event stages, none for another event
-abbrev pub staged_by : Event → List RdfTriple
-staged_by (At s (Stage ts)) = ts.items
-staged_by e = []
-
--- there is room for what the action stages
+-- there is room for what the action brings
 abbrev pub CanStage : Slot → Action → Type 0
 CanStage (Upload u) (Stage ts) = HasRoomToStage u ts.items
+CanStage (Patch p) (CommitPatch ops) = HasFormsOf p ops.items
 CanStage slot action = Unit {0}
 
--- there is room for what the event stages
+-- there is room for what the event brings
 abbrev pub CanTake : Slot → Event → Type 0
 CanTake slot (Reclaim n) = Unit {0}
 CanTake slot (At s action) = CanStage slot action

@@ -2,19 +2,17 @@
 ghost use Rattle.std.specs.Prelude.{◌≡◌, replicate, IfOk};
 ghost use Rattle.std.specs.Coded.{Coded-set, coded_list};
 ghost use Rattle.gs_event.specs.Codes.{seat_code};
-ghost use Rattle.gs_chronicle.specs.Sizes.{triples_size};
 ghost use Rattle.gs_chronicle.specs.Views.{page_of};
-ghost use Rattle.gs_audit.specs.Slots.{staged_by};
 ghost use Rattle.gs_audit.specs.Decisions.{ReplaysTo};
 ghost use Rattle.gs_audit.specs.Takes.{FollowSeats};
 
+use crate::forms::{Form, count_of};
 use crate::slots::Slot;
 use crate::takes::take;
-use gs_chronicle::{Page, list_size};
+use gs_chronicle::Page;
 use gs_core::Store;
-use gs_event::{Action, Answer, Event};
+use gs_event::{Answer, Event};
 use gs_model::Refusal;
-use gs_small_triples::SmallTriples;
 use std::alloc::{AllocError, Global};
 
 /// A store, what its seats have open, and a page of the calls that it decided.
@@ -36,12 +34,10 @@ impl<const ENTRIES: usize, const TRIPLES: usize> Audited<ENTRIES, TRIPLES> {
     ghost use Rattle.gs_event.specs.Histories.{ShowsStart, HasStartPins};
     ghost use Rattle.gs_event.specs.Steps.{Steps};
     ghost use Rattle.gs_core.specs.Settings.{start_at};
-    ghost use Rattle.gs_chronicle.specs.Sizes.{triples_size};
     ghost use Rattle.gs_chronicle.specs.Pages.{fresh_page};
     ghost use Rattle.gs_chronicle.specs.Views.{page_of};
-    ghost use Rattle.gs_small_triples.specs.Small.{small_triples};
     ghost use Rattle.gs_audit.specs.Staged.{staged_after};
-    ghost use Rattle.gs_audit.specs.Slots.{staged_by};
+    ghost use Rattle.gs_audit.specs.Forms.{IsFormOf, counts};
     ghost use Rattle.gs_audit.specs.Decisions.{page_by, ReplaysTo};
     ghost use Rattle.gs_audit.specs.Audits.{staged_of, decided_on};
 
@@ -111,21 +107,17 @@ impl<const ENTRIES: usize, const TRIPLES: usize> Audited<ENTRIES, TRIPLES> {
             ≡ page_by ENTRIES TRIPLES (page_of self.old.chronicle) (decided_on self.old event result) }
         ensures staged { staged_of self.new ≡ staged_after (staged_of self.old) event result }
     {
-        let count = staged_size(&event);
+        let count = count_of(&event);
         self.event_with(&mut event, None, count)
     }
 
-    /// The same, with the small form of the list that the event stages, if that was made before, and with
-    /// as how many triples the list counts. What the page stores is taken out of the event. A list that goes
-    /// to an open upload stays there, so that whoever has the event frees it.
-    pub fn event_with(
-        &mut self,
-        event: &mut Event,
-        small: Option<SmallTriples>,
-        count: usize,
-    ) -> Answer
-        requires form { IfSome small (λ s. small_triples s ≡ staged_by event.old) }
-        requires count { count ≡ triples_size (staged_by event.old) }
+    /// The same, with the form of what the event brings, if that was made before, and with as how many
+    /// triples that counts. What the page stores is taken out of the event. A list that goes to an open upload
+    /// stays there, and so do the triples of an open patch that have a form, so that whoever has the event
+    /// frees them.
+    pub fn event_with(&mut self, event: &mut Event, form: Option<Form>, count: usize) -> Answer
+        requires form { IfSome form (IsFormOf event.old) }
+        requires count { count ≡ counts event.old }
         ensures steps { Steps self.old.store event.old result self.new.store }
         ensures page { page_of self.new.chronicle
             ≡ page_by ENTRIES TRIPLES (page_of self.old.chronicle) (decided_on self.old event.old result) }
@@ -137,7 +129,7 @@ impl<const ENTRIES: usize, const TRIPLES: usize> Audited<ENTRIES, TRIPLES> {
             slots,
             chronicle,
         } = self;
-        take(*alloc, store, slots, chronicle, event, small, count)
+        take(*alloc, store, slots, chronicle, event, form, count)
     }
 
     /// The page. It replays to the dataset, the commit number and the last writes that the store shows.
@@ -146,16 +138,6 @@ impl<const ENTRIES: usize, const TRIPLES: usize> Audited<ENTRIES, TRIPLES> {
         ensures replays { ∥ ReplaysTo self.now.store.view (page_of result.now) ∥₁ }
     {
         &self.chronicle
-    }
-}
-
-/// As how many triples the list counts that an event stages. 0 for another event.
-fn staged_size(event: &Event) -> usize
-    ensures { result ≡ triples_size (staged_by event.now) }
-{
-    match event {
-        Event::Seat(_, Action::Stage(list)) => list_size(list),
-        _ => 0,
     }
 }
 

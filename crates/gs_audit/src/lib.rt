@@ -2,7 +2,9 @@
 #![tactic(auto)]
 
 mod audited;
+mod forms;
 mod slots;
 mod takes;
 
 pub use audited::Audited;
+pub use forms::{Form, count_of};

@@ -1,13 +1,14 @@
 //! What each seat has open.
-ghost use Rattle.std.specs.Prelude.{◌≡◌, true, false, IfSome};
+ghost use Rattle.std.specs.Prelude.{◌≡◌, map, true, false, IfSome};
 ghost use Rattle.gs_small_triples.specs.Small.{small_triples};
-ghost use Rattle.gs_chronicle.specs.Sizes.{triples_size};
-ghost use Rattle.gs_audit.specs.Slots.{staged_by, slot_phase, slot_count, CanStage, CanTake, MayLack, NotesAction};
+ghost use Rattle.gs_chronicle.specs.KeptOps.{brings, kept_brings};
+ghost use Rattle.gs_audit.specs.Forms.{staged_by, committed_by, counts, IsFormOf};
+ghost use Rattle.gs_audit.specs.Slots.{slot_phase, slot_count, CanStage, CanTake, MayLack, NotesAction};
 
-use gs_chronicle::{OpenUpload, Request};
+use crate::forms::Form;
+use gs_chronicle::{KeptOp, OpenPatch, OpenUpload, Request};
 use gs_event::{Action, Answer, Event};
 use gs_small_triples::SmallTriples;
-use gs_term::Target;
 use std::alloc::Global;
 use std::mem;
 
@@ -18,28 +19,56 @@ pub enum Slot {
     Empty,
     /// An upload, with what was staged.
     Upload(OpenUpload),
-    /// A patch of a graph, under this request number and on this condition.
-    Patch(Target, u64, Option<u64>),
+    /// A patch of a graph.
+    Patch(OpenPatch),
+}
+
+/// The small form of the list that an event stages, if that is the form.
+fn list_form(event: &Event, form: Option<Form>) -> Option<SmallTriples>
+    requires { IfSome form (IsFormOf event.now) }
+    ensures { IfSome result (λ s. small_triples s ≡ staged_by event.now) }
+{
+    match form {
+        Some(Form::List(small)) => Some(small),
+        _ => None,
+    }
+}
+
+/// How the operations are kept that an event commits, if that is the form.
+fn ops_form(event: &Event, form: Option<Form>) -> Option<Vec<KeptOp>>
+    requires { IfSome form (IsFormOf event.now) }
+    ensures { IfSome result (λ v. map kept_brings v.items ≡ map brings (committed_by event.now)) }
+{
+    match form {
+        Some(Form::Ops(forms)) => Some(forms),
+        _ => None,
+    }
 }
 
 impl Slot {
-    /// Makes room for what the event will stage, which counts as so many triples, with its small form where
-    /// there is one. False where that was refused.
-    pub fn make_room(&mut self, event: &Event, small: Option<SmallTriples>, count: usize) -> bool
-        requires form { IfSome small (λ s. small_triples s ≡ staged_by event.now) }
-        requires count { count ≡ triples_size (staged_by event.now) }
+    /// Makes room for what the event brings, which counts as so many triples, with its form where there is
+    /// one. False where that was refused.
+    pub fn make_room(&mut self, event: &Event, form: Option<Form>, count: usize) -> bool
+        requires form { IfSome form (IsFormOf event.now) }
+        requires count { count ≡ counts event.now }
         ensures phase { slot_phase self.new ≡ slot_phase self.old }
         ensures count { slot_count self.new ≡ slot_count self.old }
         ensures room { result ≡ true → CanTake self.new event.now }
         ensures refused { result ≡ false → MayLack (slot_phase self.old) event.now }
     {
-        let Event::Seat(_, Action::Stage(list)) = event else {
-            return true;
-        };
-        let Slot::Upload(upload) = self else {
-            return true;
-        };
-        upload.make_room(list, small, count)
+        match self {
+            Slot::Empty => true,
+            Slot::Upload(upload) => match event {
+                Event::Seat(_, Action::Stage(list)) => {
+                    upload.make_room(list, list_form(event, form), count)
+                }
+                _ => true,
+            },
+            Slot::Patch(patch) => {
+                patch.note_forms(ops_form(event, form), count);
+                true
+            }
+        }
     }
 
     /// Takes note of an answer to an action, of which it takes what a page stores. What the call decided,
@@ -60,7 +89,7 @@ impl Slot {
 }
 
 /// What a slot is after an answer to an action, and what the call decided. A list that goes to an open
-/// upload stays with the action.
+/// upload stays with the action, and so do the triples of a patch that have a form.
 fn after(
     slot: Slot,
     alloc: Global,
@@ -73,10 +102,7 @@ fn after(
     match slot {
         Slot::Empty => after_empty(alloc, mem::replace(action, Action::Cancel), answer),
         Slot::Upload(upload) => after_upload(upload, action, answer),
-        Slot::Patch(target, request, since) => {
-            let action = mem::replace(action, Action::Cancel);
-            after_patch(target, request, since, action, answer)
-        }
+        Slot::Patch(patch) => after_patch(patch, action, answer),
     }
 }
 
@@ -95,7 +121,9 @@ fn after_empty(alloc: Global, action: Action, answer: &Answer) -> (Slot, Option<
             _ => (Slot::Empty, None),
         },
         Action::OpenPatch(target, since) => match answer {
-            Answer::Opened(request) => (Slot::Patch(target, *request, since), None),
+            Answer::Opened(request) => {
+                (Slot::Patch(OpenPatch::new(target, *request, since)), None)
+            }
             _ => (Slot::Empty, None),
         },
         Action::Delete(target, since) => match answer {
@@ -162,27 +190,26 @@ fn after_upload(
 
 /// The same of one with a patch.
 fn after_patch(
-    target: Target,
-    request: u64,
-    since: Option<u64>,
-    action: Action,
+    patch: OpenPatch,
+    action: &mut Action,
     answer: &Answer,
 ) -> (Slot, Option<(Request, u16)>)
-    ensures { NotesAction (Slot.Patch target request since) action answer.now result.0 result.1 }
+    requires { CanStage (Slot.Patch patch) action.old }
+    ensures { NotesAction (Slot.Patch patch) action.old answer.now result.0 result.1 }
 {
     match action {
         Action::CommitPatch(ops) => match answer {
             Answer::Status(status, _, _) => {
                 (
                     Slot::Empty,
-                    Some((Request::Patch(target, ops, since), *status)),
+                    Some((Request::Patch(patch.committed(ops)), *status)),
                 )
             }
-            _ => (Slot::Patch(target, request, since), None),
+            _ => (Slot::Patch(patch), None),
         },
         Action::Cancel => match answer {
             Answer::Cancelled => (Slot::Empty, None),
-            _ => (Slot::Patch(target, request, since), None),
+            _ => (Slot::Patch(patch), None),
         },
         Action::Open(_, _)
         | Action::OpenPatch(_, _)
@@ -191,6 +218,6 @@ fn after_patch(
         | Action::Delete(_, _)
         | Action::Head(_)
         | Action::Pin(_)
-        | Action::Piece(_) => (Slot::Patch(target, request, since), None),
+        | Action::Piece(_) => (Slot::Patch(patch), None),
     }
 }

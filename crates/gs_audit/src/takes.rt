@@ -1,34 +1,32 @@
 //! One event on a store, on what its seats have open, and on a page.
 ghost use Rattle.std.specs.Prelude.{◌≡◌, IfSome};
-ghost use Rattle.gs_small_triples.specs.Small.{small_triples};
-ghost use Rattle.gs_chronicle.specs.Sizes.{triples_size};
 ghost use Rattle.gs_chronicle.specs.Views.{page_of};
 ghost use Rattle.gs_audit.specs.Decisions.{page_by};
-ghost use Rattle.gs_audit.specs.Slots.{staged_by, slot_phase, slot_count, CanTake};
+ghost use Rattle.gs_audit.specs.Forms.{IsFormOf, counts};
+ghost use Rattle.gs_audit.specs.Slots.{slot_phase, slot_count, CanTake};
 ghost use Rattle.gs_audit.specs.Takes.{StepsOrLacks, FollowSeats, TakesEvent, kept_phase, kept_count, kept_call};
 
+use crate::forms::Form;
 use crate::slots::Slot;
 use gs_chronicle::Page;
 use gs_core::Store;
 use gs_event::{Answer, Event};
 use gs_model::Refusal;
-use gs_small_triples::SmallTriples;
 use std::alloc::Global;
 
-/// Takes an event, with the small form of a list that it stages, if there is one. The list counts as so
-/// many triples.
+/// Takes an event, with the form of what it brings, if there is one. That counts as so many triples.
 pub fn take<const ENTRIES: usize, const TRIPLES: usize>(
     alloc: Global,
     store: &mut Store,
     slots: &mut Vec<Slot>,
     page: &mut Page<ENTRIES, TRIPLES>,
     event: &mut Event,
-    small: Option<SmallTriples>,
+    form: Option<Form>,
     count: usize,
 ) -> Answer
     requires seats { FollowSeats store.old slots.old.items }
-    requires small { IfSome small (λ s. small_triples s ≡ staged_by event.old) }
-    requires count { count ≡ triples_size (staged_by event.old) }
+    requires form { IfSome form (IsFormOf event.old) }
+    requires count { count ≡ counts event.old }
     ensures { TakesEvent ENTRIES TRIPLES store.old slots.old.items (page_of page.old) event.old
         result store.new slots.new.items (page_of page.new) }
 {
@@ -36,7 +34,7 @@ pub fn take<const ENTRIES: usize, const TRIPLES: usize>(
         return store.step(event);
     };
     match slots.get_mut(*seat as usize) {
-        Some(slot) => take_at(alloc, store, slot, page, event, small, count),
+        Some(slot) => take_at(alloc, store, slot, page, event, form, count),
         None => store.step(event),
     }
 }
@@ -48,11 +46,11 @@ fn take_at<const ENTRIES: usize, const TRIPLES: usize>(
     slot: &mut Slot,
     page: &mut Page<ENTRIES, TRIPLES>,
     event: &mut Event,
-    small: Option<SmallTriples>,
+    form: Option<Form>,
     count: usize,
 ) -> Answer
-    requires small { IfSome small (λ s. small_triples s ≡ staged_by event.old) }
-    requires count { count ≡ triples_size (staged_by event.old) }
+    requires form { IfSome form (IsFormOf event.old) }
+    requires count { count ≡ counts event.old }
     ensures steps { StepsOrLacks store.old (slot_phase slot.old) event.old result store.new }
     ensures phase { slot_phase slot.new ≡ kept_phase (slot_phase slot.old) event.old result }
     ensures count { slot_count slot.new
@@ -60,7 +58,7 @@ fn take_at<const ENTRIES: usize, const TRIPLES: usize>(
     ensures page { page_of page.new ≡ page_by ENTRIES TRIPLES (page_of page.old)
         (kept_call (slot_phase slot.old) (slot_count slot.old) event.old result) }
 {
-    if !slot.make_room(event, small, count) {
+    if !slot.make_room(event, form, count) {
         return Answer::Refused(Refusal::NoMemory);
     }
     let answer = store.step(event);

@@ -93,7 +93,7 @@ fn are_answered(alloc: Global, store: &mut Small, writes: &[Write]) -> Result<bo
 fn written_by(request: &Request) -> Option<(Way, Option<u64>)> {
     match request {
         Request::Upload(upload) => Some((Way::Put, upload.since())),
-        Request::Patch(_, _, since) => Some((Way::Patch, *since)),
+        Request::Patch(patch) => Some((Way::Patch, patch.since())),
         Request::Delete(_, since) => Some((Way::Delete, *since)),
         Request::Head(_) | Request::Pin(_) => None,
     }

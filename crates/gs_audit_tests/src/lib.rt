@@ -6,6 +6,8 @@
 #[cfg(test)]
 mod conditions;
 #[cfg(test)]
+mod patches;
+#[cfg(test)]
 mod refusals;
 #[cfg(test)]
 mod rows;

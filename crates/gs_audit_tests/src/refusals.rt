@@ -1,11 +1,11 @@
 //! A store with its page, where a request for memory is refused. With memory this shows the usual
 //! answers; `rt try --test --fail-alloc N` refuses the request of that number.
-use crate::stores::{Wide, cats, numbered, staged_size, triples, wide};
+use crate::stores::{Wide, cats, numbered, triples, wide};
 use crate::uploads::is_stored;
+use gs_audit::{Form, count_of};
 use gs_core::{Action, Answer, Event, UploadKind};
 use gs_event::Scope;
 use gs_model::Refusal;
-use gs_small_triples::SmallTriples;
 use gs_triple_lists::TripleList;
 use std::alloc::Global;
 
@@ -41,15 +41,15 @@ fn stage(alloc: Global, store: &mut Wide, count: u8) -> Result<Answer, Refusal> 
 /// Stages a list by its small form, or without where that was refused. The list stays with its event, which
 /// is made once more where it was refused.
 fn stage_small(alloc: Global, store: &mut Wide, list: TripleList) -> Answer {
-    let small = SmallTriples::of(alloc, &list).ok();
     let mut event = Event::Seat(0, Action::Stage(list));
-    let size = staged_size(&event);
-    let answer = store.event_with(&mut event, small, size);
+    let form = Form::of(alloc, &event);
+    let size = count_of(&event);
+    let answer = store.event_with(&mut event, form, size);
     if !wants_memory(&answer) {
         return answer;
     }
     drop(answer);
-    let size = staged_size(&event);
+    let size = count_of(&event);
     store.event_with(&mut event, None, size)
 }
 

@@ -1,6 +1,8 @@
 //! As how many triples a page counts what it stores. A triple counts once, and once more for each 32 bytes
-//! of its texts, and so does a pattern. An operation of a patch counts 16, and what it has eight times.
+//! of its texts, and so does a pattern, eight times. An operation of a patch counts 16 besides.
 use crate::stores::{Counted, cats, counted, lettered_triple};
+use gs_audit::{Form, count_of};
+use gs_chronicle::{KeptOps, Request};
 use gs_core::{Action, Event, Op, Part, Pattern, UploadKind, VariableName};
 use gs_model::Refusal;
 use gs_term::TermText;
@@ -60,9 +62,9 @@ type Patch = (
     Left,
 );
 
-/// Three operations count 48, each triple and each pattern eight times. 101 letters make 127 bytes, which are
-/// three times 32 and 31 more.
-const PATCHES: [Patch; 7] = [
+/// Three operations count 48, and each pattern eight times. 1,413 letters make 1,439 bytes, which are 44 times 32
+/// and 31 more.
+const PATCHES: [Patch; 8] = [
     ("nothing", [&[], &[]], &[], (0, 1, Some(48))),
     (
         "parts of 31 bytes",
@@ -90,13 +92,19 @@ const PATCHES: [Patch; 7] = [
     ),
     (
         "triples and a pattern fill the page",
-        [&[101], &[5]],
+        [&[1_413], &[5]],
         &[[1, 1]],
-        (0, 1, Some(96)),
+        (0, 1, Some(102)),
+    ),
+    (
+        "a letter more turns the page",
+        [&[1_414], &[5]],
+        &[[1, 1]],
+        (1, 0, None),
     ),
     (
         "a name that is too long turns the page",
-        [&[101], &[5]],
+        [&[1_413], &[5]],
         &[[1, 19]],
         (1, 0, None),
     ),
@@ -174,13 +182,58 @@ fn after_puts(alloc: Global, store: &mut Counted, puts: &[&[usize]]) -> Result<L
     Ok(left(store))
 }
 
-/// What a patch leaves in a new store that is lent.
-fn after_patch(alloc: Global, store: &mut Counted, patch: &Patch) -> Result<Left, Refusal> {
-    let operations = operations(alloc, patch)?;
+/// Whether the last entry is a patch that is kept as it came.
+fn is_as_it_came(store: &Counted) -> bool {
+    match store.page().entries().last() {
+        Some(entry) => match entry.request() {
+            Request::Patch(patch) => matches!(patch.ops(), KeptOps::AsTheyCame(_)),
+            _ => false,
+        },
+        None => false,
+    }
+}
+
+/// How many triples the first two operations have, where an event still has three.
+fn triples_of(event: &Event) -> Option<[usize; 2]> {
+    match event {
+        Event::Seat(_, Action::CommitPatch(ops)) => match ops.as_slice() {
+            [Op::Insert(inserted), Op::DeleteData(deleted), _] => {
+                Some([inserted.len(), deleted.len()])
+            }
+            _ => None,
+        },
+        _ => None,
+    }
+}
+
+/// Whether a patch leaves in a new store that is lent what its row says. One without a form is kept as it came,
+/// and of one that has a form the triples stay with the event.
+fn leaves_right(
+    alloc: Global,
+    store: &mut Counted,
+    row: &Patch,
+    has_form: bool,
+) -> Result<bool, Refusal> {
+    let operations = operations(alloc, row)?;
     let opens = Action::OpenPatch(cats(alloc)?, None);
     drop(store.event(Event::Seat(0, opens)));
-    drop(store.event(Event::Seat(0, Action::CommitPatch(operations))));
-    Ok(left(store))
+    let mut event = Event::Seat(0, Action::CommitPatch(operations));
+    let form = if has_form {
+        Form::of(alloc, &event)
+    } else {
+        None
+    };
+    let count = count_of(&event);
+    drop(store.event_with(&mut event, form, count));
+    let stayed = triples_of(&event);
+    drop(event);
+    let wanted = if has_form {
+        Some([row.1[0].len(), row.1[1].len()])
+    } else {
+        None
+    };
+    let came = row.3.1 > 0 && !has_form;
+    Ok(left(store) == row.3 && is_as_it_came(store) == came && stayed == wanted)
 }
 
 /// Whether PUTs leave what their row says.
@@ -191,12 +244,12 @@ fn is_right_upload(alloc: Global, row: &Upload) -> Result<bool, Refusal> {
     Ok(found? == row.2)
 }
 
-/// Whether a patch leaves what its row says.
-fn is_right_patch(alloc: Global, row: &Patch) -> Result<bool, Refusal> {
+/// Whether a patch leaves what its row says, with its form or without.
+fn is_right_patch(alloc: Global, row: &Patch, has_form: bool) -> Result<bool, Refusal> {
     let mut store = counted(alloc)?;
-    let found = after_patch(alloc, &mut store, row);
+    let found = leaves_right(alloc, &mut store, row, has_form);
     drop(store);
-    Ok(found? == row.3)
+    found
 }
 
 /// The name of the first row of PUTs that is wrong.
@@ -212,7 +265,7 @@ fn wrong_upload(alloc: Global) -> Result<Option<&'static str>, Refusal> {
 /// The name of the first patch that is wrong.
 fn wrong_patch(alloc: Global) -> Result<Option<&'static str>, Refusal> {
     for row in &PATCHES {
-        if !is_right_patch(alloc, row)? {
+        if !is_right_patch(alloc, row, true)? || !is_right_patch(alloc, row, false)? {
             return Ok(Some(row.0));
         }
     }

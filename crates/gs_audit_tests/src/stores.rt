@@ -1,10 +1,5 @@
 //! Small stores with a page of four entries and six triples, and what is put into them.
-ghost use Rattle.std.specs.Prelude.{◌≡◌};
-ghost use Rattle.gs_chronicle.specs.Sizes.{triples_size};
-ghost use Rattle.gs_audit.specs.Slots.{staged_by};
-
 use gs_audit::Audited;
-use gs_chronicle::list_size;
 use gs_core::{Action, Answer, Event, UploadKind, is_base};
 use gs_model::Refusal;
 use gs_term::{GraphName, Target, TermText, Triple};
@@ -45,16 +40,6 @@ pub fn counted(alloc: Global) -> Result<Counted, Refusal> {
         return Err(Refusal::Syntax(0));
     }
     Audited::new(alloc, 2, base)
-}
-
-/// As how many triples the list counts that an event stages. 0 for another event.
-pub fn staged_size(event: &Event) -> usize
-    ensures { result ≡ triples_size (staged_by event.now) }
-{
-    match event {
-        Event::Seat(_, Action::Stage(list)) => list_size(list),
-        _ => 0,
-    }
 }
 
 /// The triple whose object has this number. With a number below 10 its texts have 12, 12 and 6 bytes, so it

@@ -1,10 +1,10 @@
 //! Uploads by the lengths of their lists, and what the page has of them. Lists are staged as the lock does
 //! it, with their small forms, or without, as where memory was refused for a small form.
-use crate::stores::{Wide, cats, numbered, staged_size, wide};
+use crate::stores::{Wide, cats, numbered, wide};
+use gs_audit::{Form, count_of};
 use gs_chronicle::{Request, Upload};
 use gs_core::{Action, Answer, Event, UploadKind};
 use gs_model::Refusal;
-use gs_small_triples::SmallTriples;
 use gs_triple_lists::TripleList;
 use std::alloc::Global;
 
@@ -71,10 +71,10 @@ fn has_list(event: &Event, count: usize) -> bool {
 /// Whether a list is staged by its small form, and stays with its event.
 fn is_staged_small(alloc: Global, store: &mut Wide, list: TripleList) -> bool {
     let count = list.len();
-    let small = SmallTriples::of(alloc, &list).ok();
     let mut event = Event::Seat(0, Action::Stage(list));
-    let size = staged_size(&event);
-    let answer = store.event_with(&mut event, small, size);
+    let form = Form::of(alloc, &event);
+    let size = count_of(&event);
+    let answer = store.event_with(&mut event, form, size);
     let is_right = matches!(answer, Answer::Staged) && has_list(&event, count);
     drop(answer);
     drop(event);

@@ -1,3 +1,4 @@
+pub mod KeptOpLemmas
 pub mod ListLemmas
 pub mod PageLemmas
 pub mod ReplayLemmas

@@ -1,6 +1,6 @@
 -- As how many triples a page counts triples, patterns and operations. What takes more memory counts as more, so that a page
 -- has a bound in bytes.
-use Rattle.std.specs.Prelude.{ℕ, ◌+◌, ◌-◌, ◌*◌, ◌/◌, ◌^◌, min, List, length}
+use Rattle.std.specs.Prelude.{ℕ, ◌+◌, ◌-◌, ◌*◌, ◌/◌, ◌^◌, min, if◌then◌else◌, nat_lt, List, length}
 use Rattle.std.specs.List.{sum_by}
 use Rattle.gs_model.specs.Terms.{text_of}
 use Rattle.gs_model.specs.Triples.{RdfTriple}
@@ -32,13 +32,17 @@ pattern_part_bytes (Variable x) = length x
 abbrev pub pattern_size : Pattern → ℕ
 pattern_size p = 1 + (pattern_part_bytes p.subject + pattern_part_bytes p.predicate + pattern_part_bytes p.object) / 32
 
--- An operation of a patch is kept as it came, in more bytes than an upload: it counts 16, and each of its triples or patterns
--- eight times.
-abbrev pub op_size : Op → ℕ
-op_size (Insert ts) = 16 + 8 * sum_by triple_size ts.items
-op_size (DeleteData ts) = 16 + 8 * sum_by triple_size ts.items
-op_size (DeleteWhere ps) = 16 + 8 * sum_by pattern_size ps.items
+-- How often each triple counts of a patch of so many operations: once, or eight times where there are more than 1,024, which are
+-- kept as they came, in more bytes.
+abbrev pub triple_times : ℕ → ℕ
+triple_times n = if nat_lt 1_024 n then 8 else 1
 
--- the same of many operations
+-- An operation of a patch counts 16, and each of its triples so often. Patterns are kept as they came: each counts eight times.
+abbrev pub op_size : ℕ → Op → ℕ
+op_size times (Insert ts) = 16 + times * sum_by triple_size ts.items
+op_size times (DeleteData ts) = 16 + times * sum_by triple_size ts.items
+op_size times (DeleteWhere ps) = 16 + 8 * sum_by pattern_size ps.items
+
+-- the same of the operations of a patch
 abbrev pub ops_size : List Op → ℕ
-ops_size ops = stopped_count (sum_by op_size ops)
+ops_size ops = stopped_count (sum_by (op_size (triple_times (length ops))) ops)

@@ -20,8 +20,7 @@ fn clear_entries(entries: &mut Vec<Entry>, blocks: &mut FormBlocks)
 }
 
 /// The last calls that a store decided: at most `ENTRIES` of them, which count as at most `TRIPLES` triples
-/// in all. A triple or a pattern counts once, and once more for each 32 bytes of its texts. They are
-/// numbered from 0, and pages are numbered from 0 too.
+/// in all, as `specs/Sizes` says. They are numbered from 0, and pages are numbered from 0 too.
 #[derive(Debug, Drop)]
 pub struct Page<const ENTRIES: usize, const TRIPLES: usize> {
     number: u64,

@@ -4,9 +4,9 @@ ghost use Rattle.gs_chronicle.specs.Kinds.{action_kind_of};
 ghost use Rattle.gs_chronicle.specs.Requests.{asked_in, request_size};
 
 use crate::kinds::ActionKind;
-use crate::sizes::ops_size;
+use crate::patches::Patch;
 use crate::uploads::Upload;
-use gs_event::{Op, Scope};
+use gs_event::Scope;
 use gs_small_triples::FormBlocks;
 use gs_term::Target;
 
@@ -15,10 +15,10 @@ use gs_term::Target;
 pub enum Request {
     /// A commit of what was staged.
     Upload(Upload),
-    /// A commit of these operations on a graph. With a number it takes effect only where the graph has not
-    /// been written since the commit of that number.
-    Patch(Target, Vec<Op>, Option<u64>),
-    /// A deletion of a graph, with such a condition.
+    /// A commit of operations on a graph.
+    Patch(Patch),
+    /// A deletion of a graph. With a number it takes effect only where the graph has not been written since
+    /// the commit of that number.
     Delete(Target, Option<u64>),
     /// The question whether there is such a graph. The whole dataset is always there.
     Head(Scope),
@@ -33,38 +33,41 @@ impl Request {
     {
         match self {
             Request::Upload(_) => ActionKind::Commit,
-            Request::Patch(_, _, _) => ActionKind::CommitPatch,
+            Request::Patch(_) => ActionKind::CommitPatch,
             Request::Delete(_, _) => ActionKind::Delete,
             Request::Head(_) => ActionKind::Head,
             Request::Pin(_) => ActionKind::Pin,
         }
     }
 
-    /// Moves what an upload brought into spare blocks, where these are found. Takes no memory.
+    /// Moves what an upload or a patch brought into spare blocks, where these are found. Takes no memory.
     pub(crate) fn move_into(&mut self, blocks: &mut FormBlocks)
         ensures asked { asked_in self.new ≡ asked_in self.old }
         ensures size { request_size self.new ≡ request_size self.old }
     {
-        if let Request::Upload(upload) = self {
-            upload.move_into(blocks);
+        match self {
+            Request::Upload(upload) => upload.move_into(blocks),
+            Request::Patch(patch) => patch.move_into(blocks),
+            Request::Delete(_, _) | Request::Head(_) | Request::Pin(_) => {}
         }
     }
 
     /// Leaves the blocks of a request that is of no more use.
     pub(crate) fn leave_to(self, blocks: &mut FormBlocks) {
-        if let Request::Upload(upload) = self {
-            upload.leave_to(blocks);
+        match self {
+            Request::Upload(upload) => upload.leave_to(blocks),
+            Request::Patch(patch) => patch.leave_to(blocks),
+            Request::Delete(_, _) | Request::Head(_) | Request::Pin(_) => {}
         }
     }
 
-    /// As how many triples it counts, with repeats: each triple and each pattern once, and once more for
-    /// each 32 bytes of its texts.
+    /// As how many triples it counts, with repeats (`specs/Sizes`).
     pub fn triples(&self) -> usize
         ensures { result ≡ request_size self.now }
     {
         match self {
             Request::Upload(upload) => upload.count(),
-            Request::Patch(_, ops, _) => ops_size(ops.as_slice()),
+            Request::Patch(patch) => patch.count(),
             Request::Delete(_, _) | Request::Head(_) | Request::Pin(_) => 0,
         }
     }

@@ -3,8 +3,9 @@
 ghost use Rattle.std.specs.Prelude.{◌≡◌, ◌+◌, ◌/◌, ◌<◌, ◌^◌};
 ghost use Rattle.std.specs.List.{sum_by};
 ghost use Rattle.gs_triple_lists.specs.Readers.{triple_listed};
-ghost use Rattle.gs_chronicle.specs.Sizes.{triple_size as size_of_triple, triples_size, pattern_part_bytes, pattern_size as size_of_pattern, stopped_count, op_size as size_of_op, ops_size as size_of_ops};
+ghost use Rattle.gs_chronicle.specs.Sizes.{triple_size as size_of_triple, triples_size, pattern_part_bytes, pattern_size as size_of_pattern, stopped_count, triple_times, op_size as size_of_op, ops_size as size_of_ops};
 
+use crate::kept_ops::MOST_FORMS;
 use gs_event::Op;
 use gs_term::{Part, Pattern};
 use gs_triple_lists::{ListedTriple, TripleList};
@@ -12,12 +13,12 @@ use gs_triple_lists::{ListedTriple, TripleList};
 /// So many bytes of texts count as one triple more.
 const BYTES: usize = 32;
 
-/// As how many triples an operation of a patch counts beside those that it has. An operation of one triple
-/// takes some 400 bytes.
+/// As how many triples an operation of a patch counts beside those that it has. Its form takes some 230 bytes
+/// beside its texts, and what it was made of some 300.
 const OPERATION: usize = 16;
 
-/// How often each triple of a patch counts. It may take some 200 bytes beside its texts: a patch is kept as
-/// it came, and not packed.
+/// How often each pattern of a patch counts, and each triple of a patch of very many operations: these are
+/// kept as they came, and take some 200 bytes beside their texts.
 const TIMES: usize = 8;
 
 /// As how many triples three texts of so many bytes count.
@@ -85,26 +86,35 @@ fn patterns_size(patterns: &[Pattern]) -> usize
     size
 }
 
-/// As how many triples an operation counts.
-fn op_size(op: &Op) -> usize
-    ensures { result ≡ stopped_count (size_of_op op.now) }
+/// As how many triples an operation counts, each of whose triples counts so often.
+fn op_size(op: &Op, times: usize) -> usize
+    ensures { result ≡ stopped_count (size_of_op times op.now) }
 {
     let size = match op {
-        Op::Insert(triples) => list_size(triples),
-        Op::DeleteData(triples) => list_size(triples),
-        Op::DeleteWhere(patterns) => patterns_size(patterns),
+        Op::Insert(triples) => list_size(triples).saturating_mul(times),
+        Op::DeleteData(triples) => list_size(triples).saturating_mul(times),
+        Op::DeleteWhere(patterns) => patterns_size(patterns).saturating_mul(TIMES),
     };
-    size.saturating_mul(TIMES).saturating_add(OPERATION)
+    size.saturating_add(OPERATION)
 }
 
-/// As how many triples these operations count, with repeats: each 16, and each of its triples and patterns
-/// eight times, once more for each 32 bytes of its texts.
+/// How often each triple counts of a patch of so many operations.
+fn times_of(count: usize) -> usize
+    ensures { result ≡ triple_times count }
+{
+    if count > MOST_FORMS { TIMES } else { 1 }
+}
+
+/// As how many triples these operations count, with repeats: each 16, each triple as one of a list does, or
+/// eight times where there are more than 1,024 operations, and each pattern eight times, and eight times more
+/// for each 32 bytes of its texts.
 pub fn ops_size(ops: &[Op]) -> usize
     ensures { result ≡ size_of_ops ops.now }
 {
+    let times = times_of(ops.len());
     let mut size = 0usize;
     for op in ops {
-        size = size.saturating_add(op_size(op));
+        size = size.saturating_add(op_size(op, times));
     }
     size
 }

@@ -1,7 +1,7 @@
 //! A plain model of a store, apart from it: for each named graph its lines, and the number of the last
 //! write on it. It knows the requests of the threads alone; the status of another is 0, which none has.
-use gs_chronicle::{Request, Upload};
-use gs_core::{Op, Part, Pattern, Refusal, UploadKind};
+use gs_chronicle::{KeptOp, KeptOps, Patch, Request, Upload};
+use gs_core::{Part, Pattern, Refusal, UploadKind};
 use gs_event::Scope;
 use gs_ntwrite::line;
 use gs_term::{Target, Triple};
@@ -121,18 +121,18 @@ fn add_quads(text: &mut Vec<u8>, graph: &Graph) -> Result<(), Refusal> {
 
 impl Graph {
     /// Takes an operation.
-    fn take(&mut self, alloc: Global, op: &Op) -> Result<(), Refusal> {
+    fn take(&mut self, alloc: Global, op: &KeptOp) -> Result<(), Refusal> {
         match op {
-            Op::Insert(list) => {
-                let triples = list.to_vec(alloc)?;
+            KeptOp::Insert(small) => {
+                let triples = small.to_vec(alloc)?;
                 add_all(alloc, &mut self.lines, triples.as_slice())
             }
-            Op::DeleteWhere(patterns) => {
+            KeptOp::DeleteWhere(patterns) => {
                 let predicate = predicate_of(patterns.as_slice());
                 self.lines = without(alloc, &mut self.lines, predicate)?;
                 Ok(())
             }
-            Op::DeleteData(_) => Ok(()),
+            KeptOp::DeleteData(_) => Ok(()),
         }
     }
 }
@@ -207,17 +207,15 @@ impl Model {
         self.put(alloc, name, staged(alloc, upload)?)
     }
 
-    fn patch(
-        &mut self,
-        alloc: Global,
-        name: &[u8],
-        ops: &[Op],
-        since: Option<u64>,
-    ) -> Result<u16, Refusal> {
-        let Some(place) = self.place(name) else {
+    /// Takes a patch. The status of one that is kept as it came is 0: memory is never refused here.
+    fn patch(&mut self, alloc: Global, patch: &Patch) -> Result<u16, Refusal> {
+        let KeptOps::Kept(ops) = patch.ops() else {
+            return Ok(0);
+        };
+        let Some(place) = self.place(name_of(patch.target())) else {
             return Ok(404);
         };
-        if self.is_late(Some(place), since) {
+        if self.is_late(Some(place), patch.since()) {
             return Ok(412);
         }
         let written = self.next();
@@ -262,9 +260,7 @@ impl Model {
                 UploadKind::Put(target) => self.put_staged(alloc, name_of(target), upload),
                 UploadKind::Post(_) | UploadKind::New => Ok(0),
             },
-            Request::Patch(target, ops, since) => {
-                self.patch(alloc, name_of(target), ops.as_slice(), *since)
-            }
+            Request::Patch(patch) => self.patch(alloc, patch),
             Request::Delete(target, since) => Ok(self.delete(name_of(target), *since)),
             Request::Head(scope) | Request::Pin(scope) => Ok(self.status_of(scope)),
         }

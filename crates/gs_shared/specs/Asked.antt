@@ -39,7 +39,8 @@ brought_of (AsksStage n) Staged = n
 brought_of (AsksStatus kind n) (Status s name number) = n
 brought_of asked a = 0
 
--- as how many triples counts the list that is staged; 0 where none is
-abbrev pub staged_in : EventAsk → ℕ
-staged_in (AsksStage n) = n
-staged_in asked = 0
+-- as how many triples counts what the event brings; 0 where it brings nothing
+abbrev pub counted_in : EventAsk → ℕ
+counted_in (AsksStage n) = n
+counted_in (AsksStatus kind n) = n
+counted_in asked = 0

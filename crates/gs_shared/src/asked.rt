@@ -1,7 +1,7 @@
 //! What an event asks, as far as the tally of its pass is concerned: it is read off the event before
 //! the store takes it.
 ghost use Rattle.std.specs.Prelude.{◌≡◌};
-ghost use Rattle.gs_shared.specs.Asked.{ask_of_action, ask_of_event, decided_of, brought_of, staged_in};
+ghost use Rattle.gs_shared.specs.Asked.{ask_of_action, ask_of_event, decided_of, brought_of, counted_in};
 
 use gs_chronicle::{ActionKind, list_size, ops_size};
 use gs_event::{Action, Answer, Event};
@@ -48,13 +48,13 @@ impl EventAsk {
         }
     }
 
-    /// As how many triples counts the list that is staged.
-    pub(crate) fn staged(self) -> u64
-        ensures { result ≡ staged_in self }
+    /// As how many triples counts what the event brings.
+    pub(crate) fn counted(self) -> u64
+        ensures { result ≡ counted_in self }
     {
         match self {
-            EventAsk::Stage(triples) => triples,
-            _ => 0,
+            EventAsk::Stage(triples) | EventAsk::Status(_, triples) => triples,
+            EventAsk::Pin | EventAsk::Nothing => 0,
         }
     }
 

@@ -1,10 +1,9 @@
 //! What lies under the lock.
 ghost use Rattle.std.specs.Prelude.{◌≡◌, ◌≢◌, ◌<◌, ◌-◌, length, sum, false, IfSome};
 ghost use Rattle.crossbeam_utils.specs.Seq.{cell_view};
-ghost use Rattle.gs_small_triples.specs.Small.{small_triples};
 ghost use Rattle.gs_chronicle.specs.Views.{page_of};
 ghost use Rattle.gs_audit.specs.Audits.{staged_of};
-ghost use Rattle.gs_audit.specs.Slots.{staged_by};
+ghost use Rattle.gs_audit.specs.Forms.{IsFormOf};
 ghost use Rattle.gs_door.specs.Kinds.{IsOfKind};
 ghost use Rattle.gs_pass.specs.Tallies.{tally_of};
 ghost use Rattle.gs_shared.specs.Asked.{ask_of_event};
@@ -15,11 +14,10 @@ ghost use Rattle.gs_shared.specs.Tells.{is_of_another, ToldBy};
 
 use crate::asked::EventAsk;
 use crate::limits::{PAGE_ENTRIES, PAGE_TRIPLES};
-use gs_audit::Audited;
+use gs_audit::{Audited, Form};
 use gs_event::{Answer, Event};
 use gs_model::Refusal;
 use gs_pass::{Pass, Receipt, ReceiptRoom, Register, Room, StampCell};
-use gs_small_triples::SmallTriples;
 use std::sync::Wait;
 use std::sync::ledger::{Ledger, Share};
 
@@ -55,8 +53,9 @@ impl<C: Ledger, T: Ledger, B: Room> Locked<C, T, B> {
     }
 
     /// Takes an event that is no action of another seat than the pass's, and tells the pass. The caller
-    /// read off the event what it asks, and made the small form of a list that it stages, so that this is
-    /// not done under the lock. A list that was staged stays with the event.
+    /// read off the event what it asks, and made the form of what it brings, so that this is not done under
+    /// the lock. A list that is staged stays with the event, and so do triples of a
+    /// patch that have a form.
     pub(crate) fn event<R: Wait>(
         &mut self,
         rt: &R,
@@ -64,19 +63,19 @@ impl<C: Ledger, T: Ledger, B: Room> Locked<C, T, B> {
         pass: &mut Pass<C, T, B>,
         event: &mut Event,
         asked: EventAsk,
-        small: Option<SmallTriples>,
+        form: Option<Form>,
     ) -> Answer
         requires own { is_of_another pass.old.record.seat event.old ≡ false }
         requires cell { cell.now.table.shared.table_id ≡ B.table }
         requires asked { asked ≡ ask_of_event event.old }
-        requires small { IfSome small (λ s. small_triples s ≡ staged_by event.old) }
+        requires form { IfSome form (IsFormOf event.old) }
         ensures told { ToldBy event.old result (tally_of pass.old.record) (tally_of pass.new.record) }
         ensures kind { IsOfKind event.old result }
         ensures there { result ≢ Answer.Refused Refusal.BadSeat }
         ensures seat { pass.new.record.seat ≡ pass.old.record.seat }
     {
-        let count = asked.staged() as usize;
-        let answer = self.audited.event_with(event, small, count);
+        let count = asked.counted() as usize;
+        let answer = self.audited.event_with(event, form, count);
         self.register.count(pass, asked.brought(&answer));
         match asked.decided(&answer) {
             None => answer,

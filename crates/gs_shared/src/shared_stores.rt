@@ -1,16 +1,14 @@
 //! The lock, which threads share.
-ghost use Rattle.std.specs.Prelude.{◌≡◌, IfSome};
-ghost use Rattle.gs_small_triples.specs.Small.{small_triples};
-ghost use Rattle.gs_audit.specs.Slots.{staged_by};
+ghost use Rattle.std.specs.Prelude.{◌≡◌};
 ghost use Rattle.gs_door.specs.Kinds.{IsOfKind};
 ghost use Rattle.gs_shared.specs.Tells.{is_of_another as is_of_another_seat, Tells};
 
 use crate::asked::EventAsk;
 use crate::locked::Locked;
-use gs_event::{Action, Answer, Event};
+use gs_audit::Form;
+use gs_event::{Answer, Event};
 use gs_model::Refusal;
 use gs_pass::{Pass, Room, StampCell};
-use gs_small_triples::SmallTriples;
 use std::alloc::Global;
 use std::sync::ledger::Ledger;
 use std::sync::{Mutex, Wait};
@@ -36,25 +34,14 @@ impl<C: Ledger, T: Ledger, B: Room> SharedStore<C, T, B> {
             return Answer::Refused(Refusal::BadSeat);
         }
         let asked = EventAsk::by(&event);
-        let small = small_form(self.alloc, &event);
+        let form = Form::of(self.alloc, &event);
         let answer = self
             .lock
             .lock(rt)
-            .event(rt, &self.cell, pass, &mut event, asked, small);
-        // The list of a Stage is freed here, after the lock.
+            .event(rt, &self.cell, pass, &mut event, asked, form);
+        // What was staged, and the triples of a patch, are freed here, after the lock.
         drop(event);
         answer
-    }
-}
-
-/// The small form of the list that an event stages. `None` for another event, and where memory is
-/// refused: then the list is packed under the lock, as most short ones are.
-fn small_form(alloc: Global, event: &Event) -> Option<SmallTriples>
-    ensures { IfSome result (λ s. small_triples s ≡ staged_by event.now) }
-{
-    match event {
-        Event::Seat(_, Action::Stage(list)) => SmallTriples::of(alloc, list).ok(),
-        _ => None,
     }
 }
 
