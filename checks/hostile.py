@@ -523,17 +523,18 @@ def small_puts(program, rounds, warm=1_000, many=20_000, wanted=48_000_000):
     return holds
 
 
-# A name, and a PATCH of at most 1 MiB: what its operations are kept in is many times its bytes.
+# A name, and a PATCH of at most 1 MiB: what its operations are kept in is more than its bytes.
 KEPT = [
     ("520,000 times one triple", f"INSERT DATA {{ <a:a> <a:b> {','.join(['1'] * 520_000)} }}"),
     ("65,000 operations of nothing", ";".join(["INSERT DATA {}"] * 65_000)),
+    ("55,000 operations of one triple", "BASE <a:> " + ";".join(["INSERT DATA{<><>1}"] * 55_000)),
     ("68,000 patterns of short names", f"PREFIX p: <http://e/{'a' * 20}> " + ";".join([f"DELETE WHERE {{ {'p: p: p: . ' * 4}}}"] * 17_000)),
 ]
 
 
 def same_patches(program, rounds, many=20, wanted=100_000_000):
-    """The most memory that the page of what was asked keeps of PATCHes that come again and again. What a patch has counts eight times there,
-    and an operation 16, so a page keeps few of these."""
+    """The most memory that the page of what was asked keeps of PATCHes that come again and again. An operation counts 16 there, and a
+    pattern eight times, and so does a triple of a patch of more than 1,024 operations; so a page keeps few of these."""
     right = True
     for name, text in KEPT:
         grown = []
@@ -554,14 +555,14 @@ def same_patches(program, rounds, many=20, wanted=100_000_000):
     return right
 
 
-def replaced(program, rounds, wanted=150_000_000):
-    """How much memory a graph of 1,000 lines takes that is replaced again and again, over 40 connections one after another, by 32 workers;
-    and how much more after as many again."""
-    data = put("/graphs/many", [line(node("s", k // 5), P, f'"{k} of a thousand"') for k in range(1_000)])
+def replaced_row(program, rounds, name, data, wanted=150_000_000):
+    """How much memory a graph of 1,000 lines takes that is written 10,000 times, over 40 connections one after another, by 32 workers; and
+    how much more after as many again."""
     grown, more = [], []
     for _ in range(rounds):
         with Server(program, "--workers", "32") as server:
             clients = [Client(server) for _ in range(32)]
+            clients[0].status(put("/graphs/many", [line(P, Q, R)]))
             sizes = [server.resident_bytes()]
             for times in (10_000, 10_000):
                 for _ in range(40):
@@ -573,9 +574,17 @@ def replaced(program, rounds, wanted=150_000_000):
             grown.append(sizes[1] - sizes[0])
             more.append(sizes[2] - sizes[1])
     holds = min(grown) <= wanted and min(more) <= wanted / 10
-    print(f"a graph of 1,000 lines that is replaced 10,000 times: {min(grown) / 1e6:.1f} MB more (at most {wanted / 1e6:g}), "
+    print(f"a graph of 1,000 lines that is {name} 10,000 times: {min(grown) / 1e6:.1f} MB more (at most {wanted / 1e6:g}), "
           f"and {min(more) / 1e6:.1f} MB after 20,000 (at most {wanted / 1e7:g}){'' if holds else ': MISSED'}", flush=True)
     return holds
+
+
+def replaced(program, rounds):
+    """The same for PUTs, and for PATCHes that insert what is there."""
+    lines = [line(node("s", k // 5), P, f'"{k} of a thousand"') for k in range(1_000)]
+    patch = request("PATCH", "/graphs/many", "application/sparql-update", "INSERT DATA { " + "".join(lines) + "}")
+    rows = [("replaced", put("/graphs/many", lines)), ("patched", patch)]
+    return all([replaced_row(program, rounds, name, data) for name, data in rows])
 
 
 def said(name, right):

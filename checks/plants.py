@@ -25,7 +25,7 @@ FREES_NODES, FREES_RECORDS = "reclaim(&mut self.books.pool, &self.books.versions
 NODES_FIRST = f"let nodes = {FREES_NODES}count);\n        let left = count - nodes.freed;\n        let records = {FREES_RECORDS}left);"
 RECORDS_FIRST = f"let records = {FREES_RECORDS}count);\n        let left = count - records.freed;\n        let nodes = {FREES_NODES}left);"
 OF_DEFAULT = "gs_event::Scope::One(gs_term::Target::Default)"
-LOCKED = "let asked = EventAsk::by(&event);\n        self.lock"
+LOCKED = "let asked = EventAsk::by(&event);\n        let form"
 
 # The name of each plant, its file, what stands there once, what takes its place, and who has to refuse it: a crate and one of its
 # tests, a program and a conversation of its input, or a program and nothing.
@@ -46,13 +46,13 @@ PLANTS = [
      "for _ in 0..u64::MAX {", "for _ in 0..100_000u64 {",
      [("gs_once_tests", "a_write_that_was_interrupted_is_made_again")]),
     ("a pin is of the default graph", SHARED_STORES,
-     LOCKED, f"let event = match event {{\n            Event::Seat(seat, gs_event::Action::Pin(_)) => Event::Seat(seat, gs_event::Action::Pin({OF_DEFAULT})),\n            other => other,\n        }};\n        {LOCKED}",
+     LOCKED, f"let mut event = match event {{\n            Event::Seat(seat, gs_event::Action::Pin(_)) => Event::Seat(seat, gs_event::Action::Pin({OF_DEFAULT})),\n            other => other,\n        }};\n        {LOCKED}",
      [("gs_shared_tests", "write_read_back"), ("gs_lock_tests", "same_answers")]),
     ("a question about all graphs is one about the default graph", SHARED_STORES,
-     LOCKED, f"let event = match event {{\n            Event::Seat(seat, gs_event::Action::Head(gs_event::Scope::All)) => Event::Seat(seat, gs_event::Action::Head({OF_DEFAULT})),\n            other => other,\n        }};\n        {LOCKED}",
+     LOCKED, f"let mut event = match event {{\n            Event::Seat(seat, gs_event::Action::Head(gs_event::Scope::All)) => Event::Seat(seat, gs_event::Action::Head({OF_DEFAULT})),\n            other => other,\n        }};\n        {LOCKED}",
      [("gs_lock_thread_tests", "four_threads_leave_a_page_that_replays")]),
     ("a condition is dropped at the lock", SHARED_STORES,
-     LOCKED, f"let event = match event {{\n            Event::Seat(seat, gs_event::Action::Open(kind, _)) => Event::Seat(seat, gs_event::Action::Open(kind, None)),\n            other => other,\n        }};\n        {LOCKED}",
+     LOCKED, f"let mut event = match event {{\n            Event::Seat(seat, gs_event::Action::Open(kind, _)) => Event::Seat(seat, gs_event::Action::Open(kind, None)),\n            other => other,\n        }};\n        {LOCKED}",
      [("gs_lock_tests", "same_answers_on_condition")]),
     ("a door reports another commit number", SHARED_DOORS,
      "self.store.event(self.rt, &mut self.pass, event)",
@@ -60,7 +60,7 @@ PLANTS = [
      [("gs_lock_tests", "same_answers")]),
     ("the store takes what is refused to a pass", SHARED_STORES,
      "return Answer::Refused(Refusal::BadSeat);",
-     "let asked = EventAsk::by(&event);\n            let _ = self.lock.lock(rt).event(rt, &self.cell, pass, event, asked);\n            return Answer::Refused(Refusal::BadSeat);",
+     "let asked = EventAsk::by(&event);\n            let _ = self.lock.lock(rt).event(rt, &self.cell, pass, &mut event, asked, None);\n            return Answer::Refused(Refusal::BadSeat);",
      [("gs_shared_tests", "no_pass_acts_for_another_seat")]),
     ("a reclaimer that does not rest", f"{GATES}/reclaimers.rt",
      "thread::sleep(clock, rest_after(since(clock, start)));", "let _ = rest_after(since(clock, start));",
