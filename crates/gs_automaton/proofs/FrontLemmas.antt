@@ -3,9 +3,9 @@ use Rattle.std.proofs.Common.{◌≡◌, ℕ, zero, suc, ◌+◌, ◌<◌, ◌�
 use Rattle.std.proofs.lemmas.Bool.Decides.{nat_tests}
 use Rattle.std.proofs.lemmas.List.{get_or-drop, get_or_default}
 use Rattle.gs_automaton.specs.Classes.{is_alpha, is_digit}
-use Rattle.gs_automaton.specs.Fronts.{is_stop, EndsAtStop, IsAtStart, IsLastToken, LeadsOn}
-use Rattle.gs_automaton.specs.Scans.{IsScanned, onward_of}
-use Rattle.gs_automaton.specs.States.{state_after, start_of}
+use Rattle.gs_automaton.specs.Fronts.{is_stop, EndsAtStop, IsAtStart, IsLastToken, LeadsOn, ScanGoesOn}
+use Rattle.gs_automaton.specs.Scans.{IsScanned, best_after, onward_of}
+use Rattle.gs_automaton.specs.States.{accepts, state_after, start_of}
 use Rattle.gs_automaton.specs.Symbols.{BeginsWith}
 use Rattle.gs_automaton.specs.declared.terminals.Terminal.{Terminal}
 use Rattle.gs_automaton.specs.declared.scans.Scan.{Scan}
@@ -38,8 +38,23 @@ pub last-ended : (x : List ℕ) (s : Scan) (t : Terminal) → s.state ≡ at.End
 last-ended x s t e is_end u z m = stuck-barren u s.state z (λ c o i p. subst (λ q. state_after q c ≡ None) (sym e) refl)
 
 -- one byte more
-pub on-byte : (x : List ℕ) (s : Scan) (p : State) (u : Bool) → LeadsOn x s p → IsScanned u x s → IsScanned u x (onward_of s p 1)
+on-byte : (x : List ℕ) (s : Scan) (p : State) (u : Bool) → LeadsOn x s p → IsScanned u x s → IsScanned u x (onward_of s p 1)
 on-byte x s p u l h = scan-on u x s (get_or x s.len 0) 1 p h (front_byte x s l.within l.low) l.goes
+
+-- the best token ends where the scan does, or before
+best_on : (k : Option Terminal) (n : ℕ) (b : Option Terminal × ℕ) → b.1 ≤ n → (best_after k n b).1 ≤ n
+best_on None n b h = h
+best_on (Some t) n b h = omega arith
+
+-- so a scan goes on by a byte
+pub goes-byte : (x : List ℕ) (s : Scan) (p : State) → s.best_len ≤ s.len → LeadsOn x s p → ScanGoesOn x s (onward_of s p 1)
+goes-byte x s p b l =
+    record {
+      onward = omega arith;
+      within = omega (arith, l.within);
+      best_within = best_on (accepts p) (s.len + 1) (s.best, s.best_len) (omega (arith, b));
+      scanned = λ u. on-byte x s p u l;
+    }
 
 -- the states after the n characters from m on, the last first
 abbrev states_from : State → ℕ → ℕ → List (Option State)

@@ -3,20 +3,16 @@ use Rattle.std.proofs.Common.{◌≡◌, ℕ, zero, suc, ◌+◌, ◌-◌, ◌<�
 use Rattle.std.proofs.lemmas.Bool.{eqb-true, and_parts}
 use Rattle.std.proofs.lemmas.Bool.Decides.{nat_tests}
 use Rattle.std.proofs.lemmas.List.{get_or-drop, get_or_default}
-use Rattle.std.specs.Prelude.{◌≢◌, ◌⊎◌, ◌==◌, ◌&&◌, ◌||◌, not}
+use Rattle.std.specs.Prelude.{◌⊎◌, ◌==◌, ◌&&◌, ◌||◌, not}
 use Rattle.std.proofs.Common.{inl, inr}
-use Rattle.gs_model.specs.Characters.{is_iri_char}
-use Rattle.gs_automaton.specs.Classes.{is_digit, is_alpha, is_name_char, is_line_end, is_local}
-use Rattle.gs_automaton.specs.Runs.{AllFrom, plain_iri, plain_string, plain_name, stay_of, at_place}
+use Rattle.gs_automaton.specs.Classes.{is_name_char, is_local}
+use Rattle.gs_automaton.specs.Runs.{AllFrom, Stays, plain_name, stay_of, at_place}
 use Rattle.gs_automaton.specs.Scans.{IsScanned, best_after, onward_of}
 use Rattle.gs_automaton.specs.States.{state_after, accepts}
 use Rattle.gs_automaton.specs.declared.terminals.Terminal.{Terminal}
 use Rattle.gs_automaton.specs.declared.scans.Scan.{Scan}
 use Rattle.gs_automaton.specs.declared.states.State.{State}
 use Rattle.gs_automaton.specs.declared.states.State.TheVariants as at
-use Rattle.gs_automaton.specs.declared.states.Mark.TheVariants as mark
-use Rattle.gs_automaton.specs.declared.states.Text.TheVariants as text
-use Rattle.gs_automaton.specs.declared.states.Text.{Text}
 use Rattle.gs_automaton.proofs.ScanLemmas.{scan-on}
 use Rattle.gs_automaton.proofs.SymbolLemmas.{front-ascii}
 
@@ -28,10 +24,6 @@ run-more test x m n h k i l b = elim (either_place m n i b) [ inl c ↦ h i l c 
 
 pub run-none : (test : ℕ → Bool) (x : List ℕ) (m : ℕ) → AllFrom test x m m
 run-none test x m i l b = absurd (omega (arith, l, b))
-
--- over each such byte the automaton stays
-abbrev pub Stays : (ℕ → Bool) → State → Type 0
-Stays test q = (c : ℕ) → test c ≡ true → (c < 128) × (state_after q c ≡ Some q)
 
 best_again : (k : Option Terminal) (m n : ℕ) (b : Option Terminal × ℕ) → best_after k m (best_after k n b) ≡ best_after k m b
 best_again None m n b = refl
@@ -88,36 +80,6 @@ if_true : (b : Bool) (q : State) (o : Option State) → b ≡ true → cond b (S
 if_true true q o e = refl
 if_true false q o e = Prim.cc e
 
-if_false : (b : Bool) (p : Option State) (o : Option State) → b ≡ false → cond b p o ≡ o
-if_false false p o e = refl
-if_false true p o e = Prim.cc e
-
-iri_parts : (c : ℕ) → plain_iri c ≡ true → (c < 128) × (((c == 62) ≡ false) × (((c == 92) ≡ false) × (is_iri_char c ≡ true)))
-iri_parts c h = grind (arith, nat_tests)
-
-pub stays-iri : Stays plain_iri (at.Inside text.Iri)
-stays-iri c h =
-    let p = iri_parts c h in
-    (p.0, if_false (c == 62) _ _ p.1.0 ∙ if_false (c == 92) _ _ p.1.1.0 ∙ if_true (is_iri_char c) (at.Inside text.Iri) None p.1.1.1)
-
-string_parts : (c : ℕ) → plain_string c ≡ true → (c < 128) × (((c == 34) ≡ false) × (((c == 39) ≡ false) × (((c == 92) ≡ false) × (is_line_end c ≡ false))))
-string_parts c h = grind (arith, nat_tests)
-
-pub stays-string : (t : Text) → t ≢ text.Iri → Stays plain_string (at.Inside t)
-stays-string text.Iri n c h = absurd (n refl)
-stays-string (text.Short mark.Quote) n c h =
-    let p = string_parts c h in
-    (p.0, if_false (c == 34) _ _ p.1.0 ∙ if_false (c == 92) _ _ p.1.1.1.0 ∙ if_false (is_line_end c) _ _ p.1.1.1.1)
-stays-string (text.Short mark.Apostrophe) n c h =
-    let p = string_parts c h in
-    (p.0, if_false (c == 39) _ _ p.1.1.0 ∙ if_false (c == 92) _ _ p.1.1.1.0 ∙ if_false (is_line_end c) _ _ p.1.1.1.1)
-stays-string (text.Long mark.Quote) n c h =
-    let p = string_parts c h in
-    (p.0, if_false (c == 34) _ _ p.1.0 ∙ if_false (c == 92) _ _ p.1.1.1.0)
-stays-string (text.Long mark.Apostrophe) n c h =
-    let p = string_parts c h in
-    (p.0, if_false (c == 39) _ _ p.1.1.0 ∙ if_false (c == 92) _ _ p.1.1.1.0)
-
 -- the test holds of each number below n
 abbrev pub all_below : (ℕ → Bool) → ℕ → Bool
 all_below f zero = true
@@ -157,25 +119,3 @@ stays-label c h = let p = name_parts c h in (p.0, if_true (is_name_char c) at.La
 
 pub stays-local : Stays plain_name at.Local
 stays-local c h = let p = name_parts c h in (p.0, if_true (is_local c) at.Local _ (local_name c p.1))
-
--- a digit is of ASCII
-digit_low : (c : ℕ) → is_digit c ≡ true → c < 128
-digit_low c h = grind (arith, nat_tests)
-
--- over digits a number stays a number
-pub stays-integer : Stays is_digit at.Integer
-stays-integer c h = (digit_low c h, if_true (is_digit c) at.Integer _ h)
-
-pub stays-fraction : Stays is_digit at.IntegerFraction
-stays-fraction c h = (digit_low c h, if_true (is_digit c) at.IntegerFraction _ h)
-
-pub stays-exponent : Stays is_digit at.ExponentDigits
-stays-exponent c h = (digit_low c h, if_true (is_digit c) at.ExponentDigits _ h)
-
--- a letter is of ASCII
-letter_low : (c : ℕ) → is_alpha c ≡ true → c < 128
-letter_low c h = grind (arith, nat_tests)
-
--- over letters a tag stays a tag
-pub stays-tag : Stays is_alpha at.Tag
-stays-tag c h = (letter_low c h, if_true (is_alpha c) at.Tag _ h)

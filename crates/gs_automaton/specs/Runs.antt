@@ -1,12 +1,13 @@
 -- Runs of plain characters: bytes of ASCII over which the automaton stays where it is.
-use Rattle.std.specs.Prelude.{◌≡◌, ℕ, ◌≤◌, ◌<◌, Bool, true, not, ◌==◌, ◌&&◌, ◌||◌, List, get_or, if◌then◌else◌}
+use Rattle.std.specs.Prelude.{◌≡◌, ℕ, ◌≤◌, ◌<◌, Bool, true, not, ◌==◌, ◌&&◌, ◌||◌, List, Some, get_or, if◌then◌else◌}
 use Rattle.std.specs.Char.{is_ascii}
 use Rattle.gs_model.specs.Characters.{quote, hyphen, backslash, underscore, is_iri_char}
 use Rattle.gs_model.specs.Punctuation.{apostrophe}
 use Rattle.gs_automaton.specs.Classes.{is_alphanumeric, is_line_end}
 use Rattle.gs_automaton.specs.Scans.{best_after}
-use Rattle.gs_automaton.specs.States.{accepts}
+use Rattle.gs_automaton.specs.States.{accepts, state_after}
 use Rattle.gs_automaton.specs.declared.scans.Scan.{Scan}
+use Rattle.gs_automaton.specs.declared.states.State.{State}
 
 -- in an IRI
 abbrev pub plain_iri : ℕ → Bool
@@ -23,6 +24,10 @@ plain_name c = is_alphanumeric c || c == underscore || c == hyphen
 -- each byte of x from the place m up to the place n is such
 abbrev pub AllFrom : (ℕ → Bool) → List ℕ → ℕ → ℕ → Type 0
 AllFrom test x m n = (i : ℕ) → m ≤ i → i < n → test (get_or x i 0) ≡ true
+
+-- over each such byte the automaton stays in that state
+abbrev pub Stays : (ℕ → Bool) → State → Type 0
+Stays test q = (c : ℕ) → test c ≡ true → (c < 128) × (state_after q c ≡ Some q)
 
 -- the scan at the place n, where it stays in its state
 abbrev pub at_place : Scan → ℕ → Scan

@@ -7,11 +7,14 @@ ghost use Rattle.gs_automaton.specs.declared.states.State.TheVariants as at;
 ghost use Rattle.gs_automaton.specs.declared.states.Text.TheVariants as inside;
 
 use crate::numbers::{number, sign};
-use crate::runs::is_plain_string;
+use crate::runs::{InIri, InName, InString, Letters, is_plain_string};
 use crate::scans::Scan;
 use crate::states::{Mark, State, Text};
 use crate::terminals::Terminal;
-use crate::ways::{ended, is_letter, is_numeral, is_plain_start, open_ended, over_byte, stops};
+use crate::ways::{
+    ended, is_letter, is_numeral, is_plain_start, open_ended, open_ended_run, over_byte,
+    over_byte_and_run, stops,
+};
 
 /// Over a colon after a prefix, and over a local name.
 #[inline(always)]
@@ -22,7 +25,7 @@ fn namespace(text: &[u8], from: Scan) -> (Scan, bool)
 {
     let scan = over_byte(text, from, State::Namespace);
     if scan.len < text.len() && is_plain_start(text[scan.len]) {
-        return open_ended(text, scan, State::Local);
+        return open_ended_run::<InName>(text, scan, State::Local);
     }
     (scan, stops(text, scan))
 }
@@ -34,7 +37,7 @@ fn word(text: &[u8], from: Scan) -> (Scan, bool)
     requires best { from.best_len ≤ from.len }
     ensures { GoesOver text.now from result }
 {
-    let scan = over_byte(text, from, State::Word);
+    let scan = over_byte_and_run::<InName>(text, from, State::Word);
     if scan.len < text.len() && text[scan.len] == b':' {
         return namespace(text, scan);
     }
@@ -50,7 +53,7 @@ fn label(text: &[u8], from: Scan) -> (Scan, bool)
 {
     let scan = over_byte(text, from, State::LabelColon);
     if scan.len < text.len() && is_plain_start(text[scan.len]) {
-        return open_ended(text, scan, State::Label);
+        return open_ended_run::<InName>(text, scan, State::Label);
     }
     (scan, false)
 }
@@ -76,7 +79,7 @@ fn iri(text: &[u8], from: Scan) -> (Scan, bool)
     requires best { from.best_len ≤ from.len }
     ensures { GoesOver text.now from result }
 {
-    let scan = over_byte(text, from, State::Inside(Text::Iri));
+    let scan = over_byte_and_run::<InIri>(text, from, State::Inside(Text::Iri));
     if scan.len < text.len() && text[scan.len] == b'>' {
         return ended(text, scan, Terminal::IriRef);
     }
@@ -90,7 +93,7 @@ fn string(text: &[u8], from: Scan) -> (Scan, bool)
     requires best { from.best_len ≤ from.len }
     ensures { GoesOver text.now from result }
 {
-    let scan = over_byte(text, from, State::Inside(Text::Short(Mark::Quote)));
+    let scan = over_byte_and_run::<InString>(text, from, State::Inside(Text::Short(Mark::Quote)));
     if scan.len < text.len() && text[scan.len] == b'"' {
         return ended(text, scan, Terminal::StringLiteralQuote);
     }
@@ -120,7 +123,7 @@ fn tag(text: &[u8], from: Scan) -> (Scan, bool)
 {
     let scan = over_byte(text, from, State::AtSign);
     if scan.len < text.len() && is_letter(text[scan.len]) {
-        return open_ended(text, scan, State::Tag);
+        return open_ended_run::<Letters>(text, scan, State::Tag);
     }
     (scan, false)
 }

@@ -3,9 +3,12 @@ ghost use Rattle.std.specs.Prelude.{◌≤◌};
 ghost use Rattle.gs_automaton.specs.Fronts.{GoesOver, LeadsOn};
 ghost use Rattle.gs_automaton.specs.declared.states.State.TheVariants as at;
 
+use crate::runs::Digits;
 use crate::scans::Scan;
 use crate::states::State;
-use crate::ways::{is_exponent_mark, is_numeral, open_ended, over_byte, stops};
+use crate::ways::{
+    is_exponent_mark, is_numeral, open_ended_run, over_byte, over_byte_and_run, stops,
+};
 
 /// Over the sign of an exponent, and over its digits.
 #[inline(always)]
@@ -16,7 +19,7 @@ fn exponent_sign(text: &[u8], from: Scan) -> (Scan, bool)
 {
     let scan = over_byte(text, from, State::ExponentSign);
     if scan.len < text.len() && is_numeral(text[scan.len]) {
-        return open_ended(text, scan, State::ExponentDigits);
+        return open_ended_run::<Digits>(text, scan, State::ExponentDigits);
     }
     (scan, false)
 }
@@ -30,7 +33,7 @@ fn exponent(text: &[u8], from: Scan) -> (Scan, bool)
 {
     let scan = over_byte(text, from, State::Exponent);
     if scan.len < text.len() && is_numeral(text[scan.len]) {
-        return open_ended(text, scan, State::ExponentDigits);
+        return open_ended_run::<Digits>(text, scan, State::ExponentDigits);
     }
     if scan.len < text.len() && text[scan.len] == b'-' {
         return exponent_sign(text, scan);
@@ -45,7 +48,7 @@ fn decimal(text: &[u8], from: Scan) -> (Scan, bool)
     requires best { from.best_len ≤ from.len }
     ensures { GoesOver text.now from result }
 {
-    let scan = over_byte(text, from, State::IntegerFraction);
+    let scan = over_byte_and_run::<Digits>(text, from, State::IntegerFraction);
     if scan.len < text.len() && is_exponent_mark(text[scan.len]) {
         return exponent(text, scan);
     }
@@ -73,7 +76,7 @@ pub fn number(text: &[u8], from: Scan) -> (Scan, bool)
     requires best { from.best_len ≤ from.len }
     ensures { GoesOver text.now from result }
 {
-    let scan = over_byte(text, from, State::Integer);
+    let scan = over_byte_and_run::<Digits>(text, from, State::Integer);
     if scan.len < text.len() && text[scan.len] == b'.' {
         return fraction(text, scan);
     }

@@ -1,5 +1,5 @@
 //! Runs of plain characters, over which the automaton stays where it is.
-ghost use Rattle.std.specs.Prelude.{◌≡◌, ◌≤◌, ◌<◌, length};
+ghost use Rattle.std.specs.Prelude.{◌≡◌, ◌≤◌, ◌<◌, ℕ, Bool, length};
 ghost use Rattle.gs_automaton.specs.Classes as class;
 ghost use Rattle.gs_automaton.specs.Runs as spec;
 ghost use Rattle.gs_automaton.specs.Runs.{AllFrom};
@@ -37,78 +37,84 @@ pub fn is_plain_string(byte: u8) -> bool
     RUNS[usize::from(byte)] & 4 != 0
 }
 
-/// Where a run in an IRI ends.
-pub fn iri_run(text: &[u8], from: usize) -> usize
-    requires { from ≤ length text.now }
-    ensures after { from ≤ result }
-    ensures within { result ≤ length text.now }
-    ensures plain { AllFrom spec.plain_iri text.now from result }
-{
-    for i in from..text.len() {
-        if !is_plain_iri(text[i]) {
-            return i;
-        }
-    }
-    text.len()
+/// A class of plain characters: bytes of ASCII over which the automaton stays in some states.
+pub trait Run {
+    ghost plain: { ℕ → Bool };
+
+    fn has(byte: u8) -> bool
+        ensures { result ≡ plain byte };
 }
 
-/// Where a run in a string ends.
-pub fn string_run(text: &[u8], from: usize) -> usize
-    requires { from ≤ length text.now }
-    ensures after { from ≤ result }
-    ensures within { result ≤ length text.now }
-    ensures plain { AllFrom spec.plain_string text.now from result }
-{
-    for i in from..text.len() {
-        if !is_plain_string(text[i]) {
-            return i;
-        }
+/// Plain characters of an IRI.
+pub struct InIri;
+
+impl Run for InIri {
+    ghost plain = { spec.plain_iri };
+
+    #[inline(always)]
+    fn has(byte: u8) -> bool {
+        is_plain_iri(byte)
     }
-    text.len()
 }
 
-/// Where a run in a name ends.
+/// Plain characters of a string.
+pub struct InString;
+
+impl Run for InString {
+    ghost plain = { spec.plain_string };
+
+    #[inline(always)]
+    fn has(byte: u8) -> bool {
+        is_plain_string(byte)
+    }
+}
+
+/// Plain characters of a name.
+pub struct InName;
+
+impl Run for InName {
+    ghost plain = { spec.plain_name };
+
+    #[inline(always)]
+    fn has(byte: u8) -> bool {
+        is_plain_name(byte)
+    }
+}
+
+/// Letters.
+pub struct Letters;
+
+impl Run for Letters {
+    ghost plain = { class.is_alpha };
+
+    #[inline(always)]
+    fn has(byte: u8) -> bool {
+        byte.is_ascii_alphabetic()
+    }
+}
+
+/// Digits.
+pub struct Digits;
+
+impl Run for Digits {
+    ghost plain = { class.is_digit };
+
+    #[inline(always)]
+    fn has(byte: u8) -> bool {
+        byte.is_ascii_digit()
+    }
+}
+
+/// Where a run of a class ends.
 #[inline(always)]
-pub fn name_run(text: &[u8], from: usize) -> usize
+pub fn run_end<R: Run>(text: &[u8], from: usize) -> usize
     requires { from ≤ length text.now }
     ensures after { from ≤ result }
     ensures within { result ≤ length text.now }
-    ensures plain { AllFrom spec.plain_name text.now from result }
+    ensures all { AllFrom R.plain text.now from result }
 {
     for i in from..text.len() {
-        if !is_plain_name(text[i]) {
-            return i;
-        }
-    }
-    text.len()
-}
-
-/// Where a run of letters ends.
-#[inline(always)]
-pub fn letter_run(text: &[u8], from: usize) -> usize
-    requires { from ≤ length text.now }
-    ensures after { from ≤ result }
-    ensures within { result ≤ length text.now }
-    ensures plain { AllFrom class.is_alpha text.now from result }
-{
-    for i in from..text.len() {
-        if !text[i].is_ascii_alphabetic() {
-            return i;
-        }
-    }
-    text.len()
-}
-
-/// Where a run of digits ends.
-#[inline(always)]
-pub fn digit_run(text: &[u8], from: usize) -> usize
-    requires { from ≤ length text.now }
-    ensures after { from ≤ result }
-    ensures within { result ≤ length text.now }
-    ensures plain { AllFrom class.is_digit text.now from result }
-{
-    for i in from..text.len() {
-        if !text[i].is_ascii_digit() {
+        if !R::has(text[i]) {
             return i;
         }
     }

@@ -1,11 +1,12 @@
 //! How far a token is read.
 ghost use Rattle.std.specs.Prelude.{◌≡◌, false, ◌+◌, ◌≤◌, ◌<◌, ◌^◌, length, drop, MatchBool};
-ghost use Rattle.gs_automaton.specs.Runs.{stay_of};
+ghost use Rattle.gs_automaton.specs.Fronts.{ScanGoesOn};
+ghost use Rattle.gs_automaton.specs.Runs.{Stays, stay_of};
 ghost use Rattle.gs_automaton.specs.Symbols.{IsShort};
 ghost use Rattle.gs_automaton.specs.Scans.{onward_of, fresh, StaysScanned, IsEnded, IsOpen, IsReadOn};
 
 use crate::moves::state_after;
-use crate::runs::{digit_run, iri_run, letter_run, name_run, string_run};
+use crate::runs::{Digits, InIri, InName, InString, Letters, Run, run_end};
 use crate::states::{State, Text, accepts, start_of};
 use crate::symbols::{Symbol, front_at};
 use crate::terminals::Terminal;
@@ -57,7 +58,7 @@ impl Scan {
 
     /// At a place after, in the same state.
     #[inline(always)]
-    fn stay(self, len: usize) -> Self
+    pub fn stay(self, len: usize) -> Self
         requires best { self.best_len ≤ self.len }
         requires onward { self.len ≤ len }
         ensures stayed { result ≡ stay_of self len }
@@ -84,31 +85,35 @@ impl Scan {
     }
 }
 
-/// Over the plain characters that come next, where the state has such.
+/// Over the plain characters of that class that come next, in a state that stays over them.
 #[inline(always)]
-pub fn over_run(text: &[u8], scan: Scan) -> Scan
+fn over_run_of<R: Run>(text: &[u8], scan: Scan) -> Scan
     requires within { scan.len ≤ length text.now }
     requires best_within { scan.best_len ≤ scan.len }
-    ensures on { scan.len ≤ result.len }
-    ensures within { result.len ≤ length text.now }
-    ensures best_within { result.best_len ≤ result.len }
-    ensures scanned { StaysScanned text.now scan result }
+    requires stays { Stays R.plain scan.state }
+    ensures went { ScanGoesOn text.now scan result }
     ensures state { result.state ≡ scan.state }
 {
+    scan.stay(run_end::<R>(text, scan.len))
+}
+
+/// Over the plain characters that come next, where the state has such.
+#[inline(always)]
+fn over_run(text: &[u8], scan: Scan) -> Scan
+    requires within { scan.len ≤ length text.now }
+    requires best_within { scan.best_len ≤ scan.len }
+    ensures { ScanGoesOn text.now scan result }
+{
     match scan.state {
-        State::Inside(inside) => match inside {
-            Text::Iri => scan.stay(iri_run(text, scan.len)),
-            Text::Short(_) => scan.stay(string_run(text, scan.len)),
-            Text::Long(_) => scan.stay(string_run(text, scan.len)),
-        },
-        State::Word => scan.stay(name_run(text, scan.len)),
-        State::WordMore => scan.stay(name_run(text, scan.len)),
-        State::Local => scan.stay(name_run(text, scan.len)),
-        State::Label => scan.stay(name_run(text, scan.len)),
-        State::Integer => scan.stay(digit_run(text, scan.len)),
-        State::IntegerFraction => scan.stay(digit_run(text, scan.len)),
-        State::ExponentDigits => scan.stay(digit_run(text, scan.len)),
-        State::Tag => scan.stay(letter_run(text, scan.len)),
+        State::Inside(Text::Iri) => over_run_of::<InIri>(text, scan),
+        State::Inside(_) => over_run_of::<InString>(text, scan),
+        State::Word | State::WordMore | State::Local | State::Label => {
+            over_run_of::<InName>(text, scan)
+        }
+        State::Integer | State::IntegerFraction | State::ExponentDigits => {
+            over_run_of::<Digits>(text, scan)
+        }
+        State::Tag => over_run_of::<Letters>(text, scan),
         _ => scan,
     }
 }

@@ -3,9 +3,11 @@ ghost use Rattle.std.specs.Prelude.{◌≡◌, ◌≤◌, true};
 ghost use Rattle.gs_automaton.specs.Classes.{is_alpha, is_digit, is_exponent};
 ghost use Rattle.gs_automaton.specs.Fronts as spec;
 ghost use Rattle.gs_automaton.specs.Fronts.{EndsAtStop, ScanGoesOn, GoesOver, IsLastToken, LeadsOn};
+ghost use Rattle.gs_automaton.specs.Runs.{Stays};
 ghost use Rattle.gs_automaton.specs.declared.states.State.TheVariants as at;
 
-use crate::scans::{Scan, over_run};
+use crate::runs::{Run, run_end};
+use crate::scans::Scan;
 use crate::states::State;
 use crate::terminals::Terminal;
 
@@ -82,7 +84,7 @@ pub fn stops(text: &[u8], scan: Scan) -> bool
     false
 }
 
-/// Over a byte that leads to that state, and over the plain characters after it.
+/// Over a byte that leads to that state.
 #[inline(always)]
 pub fn over_byte(text: &[u8], from: Scan, state: State) -> Scan
     requires leads { LeadsOn text.now from state }
@@ -90,7 +92,20 @@ pub fn over_byte(text: &[u8], from: Scan, state: State) -> Scan
     ensures went { ScanGoesOn text.now from result }
     ensures state { result.state ≡ state }
 {
-    over_run(text, from.onward(state, 1))
+    from.onward(state, 1)
+}
+
+/// Over a byte that leads to that state, and over the plain characters after it.
+#[inline(always)]
+pub fn over_byte_and_run<R: Run>(text: &[u8], from: Scan, state: State) -> Scan
+    requires leads { LeadsOn text.now from state }
+    requires best { from.best_len ≤ from.len }
+    requires stays { Stays R.plain state }
+    ensures went { ScanGoesOn text.now from result }
+    ensures state { result.state ≡ state }
+{
+    let scan = from.onward(state, 1);
+    scan.stay(run_end::<R>(text, scan.len))
 }
 
 /// Over a byte that ends a token.
@@ -103,7 +118,7 @@ pub fn ended(text: &[u8], from: Scan, terminal: Terminal) -> (Scan, bool)
     (over_byte(text, from, State::Ended(terminal)), true)
 }
 
-/// Over a byte after which a token may end, and over the plain characters after it.
+/// Over a byte after which a token may end.
 #[inline(always)]
 pub fn open_ended(text: &[u8], from: Scan, state: State) -> (Scan, bool)
     requires leads { LeadsOn text.now from state }
@@ -111,5 +126,17 @@ pub fn open_ended(text: &[u8], from: Scan, state: State) -> (Scan, bool)
     ensures { GoesOver text.now from result }
 {
     let scan = over_byte(text, from, state);
+    (scan, stops(text, scan))
+}
+
+/// Over a byte after which a token may end, and over the plain characters after it.
+#[inline(always)]
+pub fn open_ended_run<R: Run>(text: &[u8], from: Scan, state: State) -> (Scan, bool)
+    requires leads { LeadsOn text.now from state }
+    requires best { from.best_len ≤ from.len }
+    requires stays { Stays R.plain state }
+    ensures { GoesOver text.now from result }
+{
+    let scan = over_byte_and_run::<R>(text, from, state);
     (scan, stops(text, scan))
 }

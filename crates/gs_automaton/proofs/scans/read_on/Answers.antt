@@ -10,7 +10,7 @@ use Rattle.gs_automaton.specs.declared.states.State.TheVariants as at
 pub loop-scan-smaller : goal.loop-scan-smaller
 loop-scan-smaller c =
     let w = scan-within c.loop-scan.scan c.args.text.now c.in-Character.c c.in-Character.size c.loop-scan.invariant.within c.in-Character.ensures in
-    omega (arith, w.0, w.1, ap (λ (s : Scan). s.len) c.onward.ensures, c.over_run-scan.ensures.on, c.over_run-scan.ensures.within)
+    omega (arith, w.0, w.1, ap (λ (s : Scan). s.len) c.onward.ensures, c.over_run-scan.ensures.onward, c.over_run-scan.ensures.within)
 
 pub loop-scan-preserved : goal.loop-scan-preserved
 loop-scan-preserved c =
