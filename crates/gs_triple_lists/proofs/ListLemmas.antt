@@ -1,25 +1,25 @@
 -- Numbers keep their terms while terms come, and so numbers of triples keep their triples.
-use Rattle.std.proofs.Common.{◌≡◌, ◌<◌, ℕ, true, List, [], ◌∷◌, ◌++◌, length, slice_get, get_or, take, reverse, Some, refl, sym, ap, ◌∙◌, arith, append-nil}
+use Rattle.std.proofs.Common.{◌≡◌, ◌<◌, ℕ, true, List, [], ◌∷◌, ◌++◌, length, slice_get, get_or, take, reverse, Some, refl, sym, ap, subst, ◌∙◌, arith, append-nil}
 use Rattle.std.proofs.lemmas.List.{map-append, length-append, append_assoc, get_or_append_left, reverse-reverse, reverse-append}
 use Rattle.std.proofs.Math.Seq.{take-append_seam}
 use Rattle.std.specs.Prelude.{Result, Ok, Err, OnErr}
 use Rattle.std.proofs.lemmas.List.Elements.{All-head, All-tail, All-push, All-weaker}
 use Rattle.std.proofs.lemmas.Option.{slice_get-get_or, slice_get_within, get_or_from_slice_get}
-use Rattle.std.proofs.lemmas.Slice.Eq.{bytes_eq-Decides}
+use Rattle.std.specs.Str.{bytes_eq}
 use Rattle.gs_model.specs.Terms.{Term, Iri, text_of}
-use Rattle.gs_model.specs.Triples.{RdfTriple, term_eq, has_kinds}
-use Rattle.gs_model.proofs.TextLemmas.{text_of-injective}
+use Rattle.gs_model.specs.Triples.{RdfTriple, has_kinds}
+use Rattle.gs_model.proofs.TextLemmas.{same_text, text_of-injective}
 use Rattle.gs_triple_lists.specs.declared.lists.TripleNumbers.{TripleNumbers}
-use Rattle.gs_triple_lists.specs.Kept.{HasMore, term_of_number, triple_of_numbers, IsTripleIn, AreNumbersOf, AreTriplesIn, triples_of_numbers}
+use Rattle.gs_triple_lists.specs.Kept.{HasMore, triple_of_terms, term_of_number, triple_of_numbers, IsTripleIn, AreNumbersOf, AreTriplesIn, triples_of_numbers}
 
 -- what holds anyway holds where a call is refused
 pub on_err : {T E P : Type 0} (r : Result T E) → P → OnErr r P
 on_err (Ok x) p = tt
 on_err (Err e) p = p
 
--- terms that compare as equal are one
-pub same_term : (t u : Term) → term_eq t u ≡ true → t ≡ u
-same_term t u e = text_of-injective t u ((bytes_eq-Decides (text_of t) (text_of u)).0 e)
+-- terms whose texts compare as equal are one
+pub same_term : (t u : Term) (x y : List ℕ) → x ≡ text_of t → y ≡ text_of u → bytes_eq x y ≡ true → t ≡ u
+same_term t u x y first second e = text_of-injective t u (sym first ∙ (same_text x y e ∙ second))
 
 -- a number's term, where it has this one
 pub number_term : (terms : List Term) (n : ℕ) (t : Term) → slice_get terms n ≡ Some t → term_of_number terms n ≡ t
@@ -44,12 +44,15 @@ term_stays old new n m inside = ap (λ ts. get_or ts n (Iri [])) m.terms ∙ get
 pub still_inside : (old new : List Term) (n : ℕ) → HasMore old new → n < length old → n < length new
 still_inside old new n m inside = omega (arith, ap length m.terms, length-append old m.more)
 
+-- a triple is its terms
+pub same_triple : {s t p q o u : Term} → s ≡ t → p ≡ q → o ≡ u → triple_of_terms s p o ≡ triple_of_terms t q u
+same_triple {s} {t} {p} {q} {o} {u} subject predicate object =
+    ap (λ x. triple_of_terms x p o) subject ∙ (ap (λ x. triple_of_terms t x o) predicate ∙ ap (λ x. triple_of_terms t q x) object)
+
 -- three numbers keep their triple
 pub triple_stays : (old new : List Term) (k : TripleNumbers) → HasMore old new → IsTripleIn old k → triple_of_numbers new k ≡ triple_of_numbers old k
 triple_stays old new k m is =
-    ap (λ t. record { subject = t; predicate = term_of_number new k.predicate; object = term_of_number new k.object }) (term_stays old new k.subject m is.subject)
-    ∙ (ap (λ t. record { subject = term_of_number old k.subject; predicate = t; object = term_of_number new k.object }) (term_stays old new k.predicate m is.predicate)
-    ∙ ap (λ t. record { subject = term_of_number old k.subject; predicate = term_of_number old k.predicate; object = t }) (term_stays old new k.object m is.object))
+    same_triple (term_stays old new k.subject m is.subject) (term_stays old new k.predicate m is.predicate) (term_stays old new k.object m is.object)
 
 -- and are still a triple's
 pub still_triple : (old new : List Term) (k : TripleNumbers) → HasMore old new → IsTripleIn old k → IsTripleIn new k
@@ -73,9 +76,7 @@ triples_stay old new (k ∷ ks) m are =
 module _ (terms : List Term) (k : TripleNumbers) (t : RdfTriple) (s : slice_get terms k.subject ≡ Some t.subject) (p : slice_get terms k.predicate ≡ Some t.predicate) (o : slice_get terms k.object ≡ Some t.object) where
   pub is_triple : triple_of_numbers terms k ≡ t
   is_triple =
-      ap (λ u. record { subject = u; predicate = term_of_number terms k.predicate; object = term_of_number terms k.object }) (number_term terms k.subject t.subject s)
-      ∙ (ap (λ u. record { subject = t.subject; predicate = u; object = term_of_number terms k.object }) (number_term terms k.predicate t.predicate p)
-      ∙ ap (λ u. record { subject = t.subject; predicate = t.predicate; object = u }) (number_term terms k.object t.object o))
+      same_triple (number_term terms k.subject t.subject s) (number_term terms k.predicate t.predicate p) (number_term terms k.object t.object o)
 
   pub are_numbers : has_kinds t ≡ true → AreNumbersOf terms t k
   are_numbers kinds = record {
@@ -96,14 +97,16 @@ number_stays old new n t m is =
     slice_get-get_or new n (Iri []) still
     ∙ ap Some (term_stays old new n m inside ∙ number_term old n t is)
 
--- one triple more
-pub one_more : (old new : List Term) (ks : List TripleNumbers) (k : TripleNumbers) (t : RdfTriple) → HasMore old new → AreTriplesIn old ks → AreNumbersOf new t k → triples_of_numbers new (ks ++ k ∷ []) ≡ triples_of_numbers old ks ++ t ∷ []
-one_more old new ks k t m are is =
-    map-append (triple_of_numbers new) ks (k ∷ [])
-    ∙ (ap (λ ts. ts ++ triple_of_numbers new k ∷ []) (triples_stay old new ks m are) ∙ ap (λ u. triples_of_numbers old ks ++ u ∷ []) is.triple)
+-- one triple more: the numbers now are those that were there, and three more
+module _ (old new : List Term) (ks now : List TripleNumbers) (k : TripleNumbers) (t : RdfTriple) (m : HasMore old new) (are : AreTriplesIn old ks) (is : AreNumbersOf new t k) (added : now ≡ ks ++ k ∷ []) where
+  pub one_more : triples_of_numbers new now ≡ triples_of_numbers old ks ++ t ∷ []
+  one_more =
+      ap (triples_of_numbers new) added
+      ∙ (map-append (triple_of_numbers new) ks (k ∷ [])
+      ∙ (ap (λ ts. ts ++ triple_of_numbers new k ∷ []) (triples_stay old new ks m are) ∙ ap (λ u. triples_of_numbers old ks ++ u ∷ []) is.triple))
 
-pub all_known : (old new : List Term) (ks : List TripleNumbers) (k : TripleNumbers) (t : RdfTriple) → HasMore old new → AreTriplesIn old ks → AreNumbersOf new t k → AreTriplesIn new (ks ++ k ∷ [])
-all_known old new ks k t m are is = All-push (IsTripleIn new) ks k (still_triples old new ks m are) is.known
+  pub all_known : AreTriplesIn new now
+  all_known = subst (AreTriplesIn new) (sym added) (All-push (IsTripleIn new) ks k (still_triples old new ks m are) is.known)
 
 -- While triples are moved from the end of a reversed list: those that were moved, and those that are left.
 pub record Moves (old given now left : List RdfTriple) : Type 0 where

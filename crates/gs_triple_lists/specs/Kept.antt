@@ -10,6 +10,10 @@ pub record HasMore (old new : List Term) : Type 0 where
   pub more : List Term
   pub terms : new ≡ old ++ more
 
+-- the triple of three terms
+abbrev pub triple_of_terms : (subject predicate object : Term) → RdfTriple
+triple_of_terms s p o = record { subject = s; predicate = p; object = o }
+
 -- the term of a number, and any where no term has it
 abbrev pub term_of_number : List Term → ℕ → Term
 term_of_number terms n = slice_index_or terms n (Iri [])

@@ -1,6 +1,7 @@
 //! Lists of triples: each term mostly once, and three numbers a triple.
 #![tactic(auto)]
 
+mod candidates;
 mod lists;
 mod orders;
 mod readers;

@@ -1,12 +1,16 @@
 //! Lists of triples.
-ghost use Rattle.std.specs.Prelude.{◌≡◌, ◌==◌, [], ◌∷◌, ◌++◌, map, length, take, slice_get, Some, IfOk, IfSome, OnOk, OnErr};
+ghost use Rattle.std.specs.Prelude.{◌≡◌, ◌==◌, [], ◌∷◌, ◌++◌, true, map, length, take, slice_get, Some};
+ghost use Rattle.std.specs.Prelude.{IfOk, IfSome, OnOk, OnErr};
 ghost use Rattle.std.specs.List.{All};
+ghost use Rattle.gs_model.specs.Triples.{has_kinds};
 ghost use Rattle.gs_triple_lists.specs.Lists.{listed};
 ghost use Rattle.gs_triple_lists.specs.Kept.{HasMore, AreNumbersOf, AreNumbersIn, AreTriplesIn, AreWithin};
-ghost use Rattle.gs_triple_lists.specs.Kept.{triples_of_numbers, renumbered_by};
+ghost use Rattle.gs_triple_lists.specs.Kept.{triple_of_terms, triples_of_numbers, renumbered_by};
+ghost use Rattle.gs_triple_lists.specs.Texts.{triple_of_texts, AreTexts};
 ghost use Rattle.gs_triple_lists.specs.Readers.{listed_left};
 ghost use Rattle.gs_triple_lists.specs.Orders.{IsOrderOf};
 
+use crate::candidates::{Candidate, Copied};
 use crate::orders::{Order, is_rising, sorted};
 use crate::readers::ListedTriples;
 use crate::tables::TermTable;
@@ -54,13 +58,13 @@ impl Model for TripleList {
 }
 
 /// A number of a triple's subject, which is mostly that of the triple before.
-fn subject_number(
+fn subject_number<C: Candidate>(
     table: &mut TermTable,
     numbers: &[TripleNumbers],
-    subject: TermText,
+    subject: C,
 ) -> Result<u32, AllocError>
     ensures more { HasMore table.old.terms.items table.new.terms.items }
-    ensures ok { IfOk result (λ n. slice_get table.new.terms.items n ≡ Some subject) }
+    ensures ok { IfOk result (λ n. slice_get table.new.terms.items n ≡ Some (C.term subject)) }
 {
     match numbers.last() {
         Some(last) if table.is_number_of(last.subject, &subject) => Ok(last.subject),
@@ -70,14 +74,14 @@ fn subject_number(
 
 /// A number of the predicate of a triple whose subject has this number. Where the triple before has another
 /// subject, it is often that of the triple before; triples of one subject mostly have other predicates.
-fn predicate_number(
+fn predicate_number<C: Candidate>(
     table: &mut TermTable,
     numbers: &[TripleNumbers],
     subject: u32,
-    predicate: TermText,
+    predicate: C,
 ) -> Result<u32, AllocError>
     ensures more { HasMore table.old.terms.items table.new.terms.items }
-    ensures ok { IfOk result (λ n. slice_get table.new.terms.items n ≡ Some predicate) }
+    ensures ok { IfOk result (λ n. slice_get table.new.terms.items n ≡ Some (C.term predicate)) }
 {
     match numbers.last() {
         Some(last) if last.subject != subject && table.is_number_of(last.predicate, &predicate) => {
@@ -88,17 +92,18 @@ fn predicate_number(
 }
 
 /// Numbers of a triple's terms, where these triples are in the list.
-fn numbers_of(
+fn numbers_of<C: Candidate>(
     table: &mut TermTable,
     numbers: &[TripleNumbers],
-    triple: Triple,
+    subject: C,
+    predicate: C,
+    object: C,
 ) -> Result<TripleNumbers, AllocError>
+    requires { has_kinds (triple_of_terms (C.term subject) (C.term predicate) (C.term object)) ≡ true }
     ensures more { HasMore table.old.terms.items table.new.terms.items }
-    ensures ok { IfOk result (AreNumbersOf table.new.terms.items triple) }
+    ensures ok { IfOk result (AreNumbersOf table.new.terms.items
+        (triple_of_terms (C.term subject) (C.term predicate) (C.term object))) }
 {
-    // For the proof that these numbers are a triple's.
-    triple.known();
-    let (subject, predicate, object) = triple.into_terms();
     let subject = subject_number(table, numbers, subject)?;
     let predicate = predicate_number(table, numbers, subject, predicate)?;
     let object = table.number_of(object)?;
@@ -215,7 +220,34 @@ impl TripleList {
     {
         self.order = Order::Unknown;
         self.numbers.reserve(1)?;
-        let three = numbers_of(&mut self.table, &self.numbers, triple)?;
+        // For the proof that the terms are of the kinds of a triple.
+        triple.known();
+        let (subject, predicate, object) = triple.into_terms();
+        let three = numbers_of(&mut self.table, &self.numbers, subject, predicate, object)?;
+        self.numbers.push_reserved(three);
+        Ok(())
+    }
+
+    /// Adds the triple of the terms of three texts. A text is copied only where the list does not have it yet,
+    /// or does not find it. Where memory is refused, nothing is added.
+    pub fn push_texts(
+        &mut self,
+        subject: &[u8],
+        predicate: &[u8],
+        object: &[u8],
+    ) -> Result<(), AllocError>
+        requires { AreTexts subject.now predicate.now object.now }
+        ensures added { OnOk result (self.new
+            ≡ listed (self.old.items ++ triple_of_texts subject.now predicate.now object.now ∷ [])) }
+        ensures kept { OnErr result (self.new ≡ self.old) }
+    {
+        self.order = Order::Unknown;
+        self.numbers.reserve(1)?;
+        let alloc = *self.numbers.allocator();
+        let subject = Copied::new(alloc, subject);
+        let predicate = Copied::new(alloc, predicate);
+        let object = Copied::new(alloc, object);
+        let three = numbers_of(&mut self.table, &self.numbers, subject, predicate, object)?;
         self.numbers.push_reserved(three);
         Ok(())
     }

@@ -2,6 +2,7 @@
 ghost use Rattle.std.specs.Prelude.{◌≡◌, [], true, slice_get, Some, IfOk, IfSome};
 ghost use Rattle.gs_triple_lists.specs.Kept.{HasMore};
 
+use crate::candidates::Candidate;
 use gs_term::TermText;
 use std::alloc::{AllocError, Global};
 use std::hash::{FoldHasher, Hasher};
@@ -86,24 +87,26 @@ impl TermTable {
     }
 
     /// Whether this number is the term's.
-    pub fn is_number_of(&self, number: u32, term: &TermText) -> bool
-        ensures { result ≡ true → slice_get self.now.terms.items number ≡ Some term.now }
+    #[inline(always)]
+    pub fn is_number_of<C: Candidate>(&self, number: u32, candidate: &C) -> bool
+        ensures { result ≡ true → slice_get self.now.terms.items number ≡ Some (C.term candidate.now) }
     {
         match self.terms.get(number as usize) {
             None => false,
-            Some(known) => known == term,
+            Some(known) => known.as_bytes() == candidate.text(),
         }
     }
 
     /// A number of a term, looked for among the newest ones of its bucket.
-    fn find(&self, term: &TermText, hash: u32) -> Option<u32>
-        ensures { IfSome result (λ n. slice_get self.now.terms.items n ≡ Some term.now) }
+    #[inline(always)]
+    fn find<C: Candidate>(&self, candidate: &C, hash: u32) -> Option<u32>
+        ensures { IfSome result (λ n. slice_get self.now.terms.items n ≡ Some (C.term candidate.now)) }
     {
         let mut link = *self.heads.get(bucket(hash, self.heads.len()))?;
         for _ in 0..LOOKS {
             let entry = *self.links.get(link.checked_sub(1)? as usize)?;
             let number = link.wrapping_add(FEW as u32 - 1);
-            if entry.hash == hash && self.is_number_of(number, term) {
+            if entry.hash == hash && self.is_number_of(number, candidate) {
                 return Some(number);
             }
             link = entry.next;
@@ -142,17 +145,17 @@ impl TermTable {
     }
 
     /// A number of a term, which is added to a chain where it is in none.
-    fn number_by_hash(&mut self, term: TermText) -> Result<u32, AllocError>
+    fn number_by_hash<C: Candidate>(&mut self, candidate: C) -> Result<u32, AllocError>
         ensures more { HasMore self.old.terms.items self.new.terms.items }
-        ensures ok { IfOk result (λ n. slice_get self.new.terms.items n ≡ Some term) }
+        ensures ok { IfOk result (λ n. slice_get self.new.terms.items n ≡ Some (C.term candidate)) }
     {
-        let hash = hash_of(term.as_bytes());
-        if let Some(number) = self.find(&term, hash) {
+        let hash = hash_of(candidate.text());
+        if let Some(number) = self.find(&candidate, hash) {
             return Ok(number);
         }
         self.grow()?;
         self.links.reserve(1)?;
-        let number = self.add(term)?;
+        let number = self.add(candidate.into_term()?)?;
         let place = (self.links.len() & 0xFFFF_FFFF) as u32;
         let next = link_before(&mut self.heads, hash, place);
         self.links.push_reserved(Link { next, hash });
@@ -160,14 +163,14 @@ impl TermTable {
     }
 
     /// A number of a term, which is added where it is not found. Among few it is not looked for.
-    pub fn number_of(&mut self, term: TermText) -> Result<u32, AllocError>
+    pub fn number_of<C: Candidate>(&mut self, candidate: C) -> Result<u32, AllocError>
         ensures more { HasMore self.old.terms.items self.new.terms.items }
-        ensures ok { IfOk result (λ n. slice_get self.new.terms.items n ≡ Some term) }
+        ensures ok { IfOk result (λ n. slice_get self.new.terms.items n ≡ Some (C.term candidate)) }
     {
         if self.terms.len() < FEW {
-            return self.add(term);
+            return self.add(candidate.into_term()?);
         }
-        self.number_by_hash(term)
+        self.number_by_hash(candidate)
     }
 
     /// Without terms again.

@@ -2,7 +2,7 @@
 use gs_model::Refusal;
 use gs_term::{TermText, Triple};
 use gs_triple_lists::{ListedTriple, TripleList};
-use std::alloc::Global;
+use std::alloc::{AllocError, Global};
 
 /// `"x` is a literal, and any other word an IRI.
 fn term(alloc: Global, word: &str) -> Result<TermText, Refusal> {
@@ -91,23 +91,49 @@ const FIRST: [&str; 6] = [
 /// How many terms these have.
 const FIRST_TERMS: usize = 18;
 
-/// Adds triples to a list.
-pub fn push_each(list: &mut TripleList, triples: &[Triple]) -> Result<(), Refusal> {
+/// Adds a triple to a list by its texts.
+pub fn push_texts(list: &mut TripleList, triple: &Triple) -> Result<(), AllocError> {
+    // For the proof that the texts are those of a triple.
+    triple.known();
+    let subject = triple.subject().as_bytes();
+    let predicate = triple.predicate().as_bytes();
+    let object = triple.object().as_bytes();
+    list.push_texts(subject, predicate, object)
+}
+
+/// How triples are added: as terms, or by their texts.
+#[derive(Clone, Copy)]
+enum Way {
+    Terms,
+    Texts,
+}
+
+/// Adds triples to a list in a way.
+fn push_in_way(list: &mut TripleList, way: Way, triples: &[Triple]) -> Result<(), Refusal> {
     for triple in triples {
-        list.push(triple.clone()?)?;
+        match way {
+            Way::Terms => list.push(triple.clone()?)?,
+            Way::Texts => push_texts(list, triple)?,
+        }
     }
     Ok(())
+}
+
+/// Adds triples to a list.
+pub fn push_each(list: &mut TripleList, triples: &[Triple]) -> Result<(), Refusal> {
+    push_in_way(list, Way::Terms, triples)
 }
 
 /// How many terms a list keeps of these triples, in their order, after the first; none where it has other
 /// triples then.
 fn terms_in(
     list: &mut TripleList,
+    way: Way,
     first: &[Triple],
     triples: &[Triple],
 ) -> Result<Option<usize>, Refusal> {
     push_each(list, first)?;
-    push_each(list, triples)?;
+    push_in_way(list, way, triples)?;
     if !has_both(list, first, triples) {
         return Ok(None);
     }
@@ -125,11 +151,18 @@ fn first_triples(alloc: Global) -> Result<Vec<Triple>, Refusal> {
 }
 
 /// The same of a new list.
-pub fn terms_of(alloc: Global, triples: &[Triple]) -> Result<Option<usize>, Refusal> {
+fn terms_in_new(alloc: Global, way: Way, triples: &[Triple]) -> Result<Option<usize>, Refusal> {
     let first = first_triples(alloc)?;
     let mut list = TripleList::new(alloc);
-    let terms = terms_in(&mut list, first.as_slice(), triples);
+    let terms = terms_in(&mut list, way, first.as_slice(), triples);
     drop(list);
     drop(first);
     terms
+}
+
+/// How many terms a list keeps of these triples, where it keeps as many in each way.
+pub fn terms_of(alloc: Global, triples: &[Triple]) -> Result<Option<usize>, Refusal> {
+    let of_terms = terms_in_new(alloc, Way::Terms, triples)?;
+    let of_texts = terms_in_new(alloc, Way::Texts, triples)?;
+    Ok(if of_terms == of_texts { of_terms } else { None })
 }

@@ -1,6 +1,6 @@
 //! Lists where a request for memory is refused. With memory these show the usual answers;
 //! `rt try --test --fail-alloc N` refuses the request of that number.
-use crate::lists::{has_just, triple};
+use crate::lists::{has_just, push_texts, triple};
 use crate::outcome::none_wrong;
 use gs_model::Refusal;
 use gs_term::Triple;
@@ -86,6 +86,44 @@ fn adds_all(alloc: Global) -> Result<bool, Refusal> {
 #[test]
 fn a_refused_triple_is_not_in_the_list(rt: HostRuntime) -> Result<(), Fail> {
     assert!(rt; adds_all(rt.alloc())?);
+    Ok(())
+}
+
+/// Adds a triple by its texts, and again where memory is refused, which has to leave the list with just those
+/// that it had.
+fn adds_texts(list: &mut TripleList, had: &[Triple], triple: &Triple) -> Result<bool, AllocError> {
+    if push_texts(list, triple).is_ok() {
+        return Ok(true);
+    }
+    let is_kept = has_just(list, had);
+    push_texts(list, triple)?;
+    Ok(is_kept)
+}
+
+/// Whether each triple is added so.
+fn adds_each_by_texts(list: &mut TripleList, triples: &[Triple]) -> Result<bool, AllocError> {
+    for (place, triple) in triples.iter().enumerate() {
+        let had = triples.get(..place).unwrap_or_default();
+        if !adds_texts(list, had, triple)? {
+            return Ok(false);
+        }
+    }
+    Ok(has_just(list, triples))
+}
+
+/// The same of a new list.
+fn adds_all_by_texts(alloc: Global) -> Result<bool, Refusal> {
+    let triples = triples(alloc)?;
+    let mut list = TripleList::new(alloc);
+    let answer = adds_each_by_texts(&mut list, triples.as_slice());
+    drop(list);
+    drop(triples);
+    Ok(answer?)
+}
+
+#[test]
+fn a_refused_triple_of_texts_is_not_in_the_list(rt: HostRuntime) -> Result<(), Fail> {
+    assert!(rt; adds_all_by_texts(rt.alloc())?);
     Ok(())
 }
 
