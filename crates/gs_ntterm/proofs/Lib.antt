@@ -1,6 +1,7 @@
 pub mod Branches
 pub mod FormLemmas
 pub mod Holding
+pub mod LabelFronts
 pub mod Lanes
 pub mod NumberLemmas
 pub mod RunLemmas

@@ -20,7 +20,7 @@ use Rattle.std.proofs.lemmas.Slice.Eq.{bytes_eq-Decides}
 use Rattle.gs_term.specs.Making.{made}
 use Rattle.gs_term.proofs.MakingLemmas.{canonical, term_of-bytes, suffix_plain, suffix_other, suffix_tag}
 use Rattle.gs_ntterm.specs.Runs.{runs_in_iri, runs_in_string}
-use Rattle.gs_ntterm.specs.Wholes.{IriFront, IsIriFront, StringFront, DatatypeFront, TagFront, IsLiteralFront, string_suffix, SaysSuffix, none, datatype, tag}
+use Rattle.gs_ntterm.specs.Wholes.{IriFront, IsIriFront, StringFront, DatatypeFront, TagFront, IsLiteralFront, IsLiteralText, string_suffix, SaysSuffix, none, datatype, tag}
 use Rattle.gs_ntterm.proofs.RunLemmas.{low_iri, low_string}
 
 -- text between two marks
@@ -31,7 +31,7 @@ marked a z (b ∷ bs) n l e h f =
     ap (λ m. take m (b ∷ bs)) k ∙ ap (λ r. b ∷ r) (take_more bs n 0 h) ∙ ap₂ (λ x y. x ∷ take n bs ++ y ∷ []) e f
 
 -- runs are ASCII
-ascii_by : (p : ℕ → Bool) → ((b : ℕ) → p b ≡ true → b < 128) → (xs : List ℕ) → list_all p xs ≡ true → (i : ℕ) → slice_index xs i < 128
+pub ascii_by : (p : ℕ → Bool) → ((b : ℕ) → p b ≡ true → b < 128) → (xs : List ℕ) → list_all p xs ≡ true → (i : ℕ) → slice_index xs i < 128
 ascii_by p low [] e i = omega arith
 ascii_by p low (b ∷ bs) e zero = low b (and_parts (p b) (list_all p bs) e).0
 ascii_by p low (b ∷ bs) e (suc i) = ascii_by p low bs (and_parts (p b) (list_all p bs) e).1 i
@@ -178,7 +178,7 @@ module _ (x : List ℕ) (q : ℕ) (f : StringFront x q) where
         literal_front x f.lexical [] (Typed xsd_string) q q f.stands f.plain none refl (iri_text xsd_string refl) s f.within (plain_text x q f) le,
       )
 
-  room : (n : ℕ) → n ≤ length (drop q x) → q + n ≤ length x
+  pub room : (n : ℕ) → n ≤ length (drop q x) → q + n ≤ length x
   room n h = omega (arith, f.within, length-drop q x)
 
   typed_both : (n : ℕ) (d : DatatypeFront (drop q x) n) → q + n ≤ max_term_bytes → false ≡ bytes_eq (take n (drop q x)) string_suffix
@@ -207,6 +207,13 @@ module _ (x : List ℕ) (q : ℕ) (f : StringFront x q) where
       by_name true h k = subst (λ (j : ℕ). IsCanonical (take j x) × ((t : Term) → t ≡ term_of (take j x) → IsLiteralFront x (q + n) t)) (sym k) (string_both n d s h)
       by_name false h k = subst (λ (j : ℕ). IsCanonical (take j x) × ((t : Term) → t ≡ term_of (take j x) → IsLiteralFront x (q + n) t)) (sym k) (typed_both n d s h)
 
+  pub datatype_within : (n m : ℕ) → DatatypeFront (drop q x) n → m ≡ cond (bytes_eq (take n (drop q x)) string_suffix) q (q + n) → m ≤ length x
+  datatype_within n m d e = by_name (bytes_eq (take n (drop q x)) string_suffix) e
+    where
+      by_name : (b : Bool) → m ≡ cond b q (q + n) → m ≤ length x
+      by_name true k = omega (arith, k, f.within)
+      by_name false k = omega (arith, k, room n d.within)
+
   pub tagged_both : (n : ℕ) (d : TagFront (drop q x) n) → q + n ≤ max_term_bytes
       → IsCanonical (take (q + n) x) × ((t : Term) → t ≡ term_of (take (q + n) x) → IsLiteralFront x (q + n) t)
   tagged_both n d s =
@@ -214,6 +221,10 @@ module _ (x : List ℕ) (q : ℕ) (f : StringFront x q) where
         literal_canonical x f.lexical (64 ∷ d.tag) (Tagged d.tag) (q + n) (q + n) (tagged_stands x q n f d) f.plain (tag d.tag d.plain d.some) (tag_formed d.tag d.plain d.some) tt s (room n d.within) (tagged_text x q n f d) le,
         literal_front x f.lexical (64 ∷ d.tag) (Tagged d.tag) (q + n) (q + n) (tagged_stands x q n f d) f.plain (tag d.tag d.plain d.some) (tag_formed d.tag d.plain d.some) tt s (room n d.within) (tagged_text x q n f d) le,
       )
+
+-- the text of a literal with its token
+pub literal_text : (x : List ℕ) (m n : ℕ) → m ≤ length x → IsCanonical (take m x) × ((t : Term) → t ≡ term_of (take m x) → IsLiteralFront x n t) → IsLiteralText x m n
+literal_text x m n h b = record { canonical = b.0; front = b.1 (term_of (take m x)) refl; within = h }
 
 -- an absolute IRI by its scheme
 pub absolute_at : (x : List ℕ) → 0 < length x → is_absolute x ≡ (is_letter (get_or x 0 0) && is_scheme_rest (drop 1 x))

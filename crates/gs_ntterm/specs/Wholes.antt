@@ -1,12 +1,15 @@
 -- Tokens that stand whole at the front of a piece, in characters of ASCII that mean themselves, and the terms that they are.
-use Rattle.std.specs.Prelude.{◌≡◌, ℕ, ◌≤◌, ◌<◌, true, List, [], ◌∷◌, ◌++◌, length, take, Ok}
+use Rattle.std.specs.Prelude.{◌≡◌, ℕ, ◌+◌, ◌≤◌, ◌<◌, true, List, [], ◌∷◌, ◌++◌, length, take, get_or, Ok}
+use Rattle.std.specs.Char.{is_ascii}
 use Rattle.std.specs.List.{list_all}
-use Rattle.gs_model.specs.Characters.{is_lower, quote, at_sign, caret, less_than, greater_than}
+use Rattle.gs_model.specs.Characters.{is_lower, quote, colon, underscore, at_sign, caret, less_than, greater_than}
 use Rattle.gs_model.specs.Iris.{is_absolute}
 use Rattle.gs_model.specs.Limits.{max_term_bytes}
 use Rattle.gs_model.specs.Terms.{Term, Iri, Literal, LiteralKind, Typed, Tagged, xsd_string}
+use Rattle.gs_model.specs.Texts.{term_of, IsCanonical}
 use Rattle.gs_term.specs.Making.{made}
-use Rattle.gs_ntterm.specs.Runs.{runs_in_iri, runs_in_string}
+use Rattle.gs_ntterm.specs.Classes.{is_space, begins_label}
+use Rattle.gs_ntterm.specs.Runs.{runs_in_iri, runs_in_string, runs_in_label}
 
 -- the first n bytes are an absolute IRI in its marks, which a term has room for
 pub record IriFront (piece : List ℕ) (n : ℕ) : Type 0 where
@@ -68,3 +71,29 @@ pub record IsLiteralFront (piece : List ℕ) (n : ℕ) (t : Term) : Type 0 where
   pub made : made (Literal lexical kind) ≡ Ok (Literal lexical kind)
   pub short : n ≤ max_term_bytes
   pub within : n ≤ length piece
+
+-- the first m bytes are the text of a literal, whose token the first n bytes are
+pub record IsLiteralText (piece : List ℕ) (m n : ℕ) : Type 0 where
+  pub canonical : IsCanonical (take m piece)
+  pub front : IsLiteralFront piece n (term_of (take m piece))
+  pub within : m ≤ length piece
+
+-- a label of ASCII begins at the front: its mark and its first character
+pub record LabelBegins (piece : List ℕ) : Type 0 where
+  pub first : ℕ
+  pub rest : List ℕ
+  pub is : piece ≡ underscore ∷ colon ∷ first ∷ rest
+  pub small : is_ascii first ≡ true
+  pub begins : begins_label first ≡ true
+
+-- a label of ASCII without dots stands at the front after its mark, before a blank
+pub record LabelFront (piece label : List ℕ) : Type 0 where
+  pub first : ℕ
+  pub more : List ℕ
+  pub is : label ≡ first ∷ more
+  pub small : is_ascii first ≡ true
+  pub begins : begins_label first ≡ true
+  pub plain : list_all runs_in_label more ≡ true
+  pub stands : take (length label + 2) piece ≡ underscore ∷ colon ∷ label
+  pub within : length label + 2 < length piece
+  pub blank : is_space (get_or piece (length label + 2) 0) ≡ true

@@ -20,4 +20,4 @@ pub use names::Name;
 pub use runs::{Between, Class, InComment, InIri, InLabel, InString, Wide, run_len, short_run_len};
 pub use terms::{iri, plain, tagged, typed};
 pub use tokens::Token;
-pub use wholes::{iri_front, literal_front};
+pub use wholes::{iri_front, iri_len, label_front, literal_front, literal_len};

@@ -9,12 +9,20 @@ use gs_model::MAX_TERM_BYTES;
 use std::alloc::{AllocError, Global};
 use std::str::from_utf8_unchecked;
 
+/// Bytes of ASCII as text, which is not tested again.
+pub fn ascii_str(bytes: &[u8]) -> &str
+    requires { IsAscii bytes.now }
+    ensures { result.now ≡ bytes.now }
+{
+    unsafe { from_utf8_unchecked(bytes) }
+}
+
 /// Appends bytes of ASCII, as text that is not tested again.
 pub fn push_ascii(text: &mut String, bytes: &[u8]) -> Result<(), AllocError>
     requires { IsAscii bytes.now }
     ensures { OnOk result (string_bytes text.new ≡ string_bytes text.old ++ bytes.now) }
 {
-    text.push_str(unsafe { from_utf8_unchecked(bytes) })
+    text.push_str(ascii_str(bytes))
 }
 
 /// The bytes of a token so far, of which only the form is kept where no term has room for them.

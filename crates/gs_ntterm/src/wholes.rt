@@ -6,10 +6,12 @@ ghost use Rattle.std.specs.List.{list_all};
 ghost use Rattle.gs_model.specs.Characters.{is_lower as is_lower_of, is_iri_char};
 ghost use Rattle.gs_model.specs.Iris.{is_absolute, is_letter as is_letter_of, is_scheme_char as is_scheme_char_of};
 ghost use Rattle.gs_model.specs.Texts.{term_of};
-ghost use Rattle.gs_ntterm.specs.Wholes.{IriFront, IsIriFront, StringFront, DatatypeFront, TagFront, IsLiteralFront, string_suffix};
+ghost use Rattle.gs_ntterm.specs.Wholes.{IriFront, IsIriFront, StringFront, DatatypeFront, TagFront, IsLiteralFront, IsLiteralText, LabelBegins, LabelFront, string_suffix};
 
+use crate::classes::{begins_label, is_space};
 use crate::names::Name;
-use crate::runs::{Class, InIri, InString, run_len, short_run_len};
+use crate::runs::{Class, InIri, InLabel, InString, run_len, short_run_len};
+use crate::tokens::ascii_str;
 use gs_model::MAX_TERM_BYTES;
 use gs_term::TermText;
 use std::alloc::{AllocError, Global};
@@ -67,7 +69,7 @@ fn has_scheme(iri: &[u8]) -> bool
 /// How many bytes an absolute IRI in its marks has at the front, or 0 where none stands there
 /// whole, in plain characters, short enough for a term.
 #[inline]
-fn iri_len(piece: &[u8]) -> usize
+pub fn iri_len(piece: &[u8]) -> usize
     ensures { 0 < result → IriFront piece.now result }
 {
     if piece.len() == 0 || piece[0] != b'<' {
@@ -155,71 +157,87 @@ fn text_len(rest: &[u8], quoted: usize, n: usize) -> usize
     }
 }
 
-/// The literal of a string of so many bytes, if the IRI of its datatype stands whole after it.
-fn typed_front(
-    alloc: Global,
-    piece: &[u8],
-    quoted: usize,
-) -> Result<Option<(TermText, usize)>, AllocError>
+/// How many bytes the literal of a string of so many bytes has, and its token, if the IRI of its datatype
+/// stands whole after it.
+fn typed_len(piece: &[u8], quoted: usize) -> Option<(usize, usize)>
     requires { StringFront piece.now quoted }
-    ensures { IfOk result (λ o. IfSome o (λ w. IsLiteralFront piece.now w.1 w.0)) }
+    ensures { IfSome result (λ w. IsLiteralText piece.now w.0 w.1) }
 {
     let rest = &piece[quoted..];
     let n = datatype_len(rest);
     if n == 0 || quoted > MAX_TERM_BYTES || n > MAX_TERM_BYTES - quoted {
-        return Ok(None);
+        return None;
     }
-    let end = text_len(rest, quoted, n);
-    let term = TermText::of_canonical(alloc, &piece[..end])?;
-    Ok(Some((term, quoted + n)))
+    Some((text_len(rest, quoted, n), quoted + n))
 }
 
-/// The literal of a string of so many bytes, if a language tag of small letters stands after it.
-fn tagged_front(
-    alloc: Global,
-    piece: &[u8],
-    quoted: usize,
-) -> Result<Option<(TermText, usize)>, AllocError>
+/// The same, if a language tag of small letters stands after it.
+fn tagged_len(piece: &[u8], quoted: usize) -> Option<(usize, usize)>
     requires { StringFront piece.now quoted }
-    ensures { IfOk result (λ o. IfSome o (λ w. IsLiteralFront piece.now w.1 w.0)) }
+    ensures { IfSome result (λ w. IsLiteralText piece.now w.0 w.1) }
 {
     let n = tag_len(&piece[quoted..]);
     if n == 0 || quoted > MAX_TERM_BYTES || n > MAX_TERM_BYTES - quoted {
-        return Ok(None);
+        return None;
     }
-    let term = TermText::of_canonical(alloc, &piece[..quoted + n])?;
-    Ok(Some((term, quoted + n)))
+    Some((quoted + n, quoted + n))
 }
 
-/// The literal of a string of so many bytes, with neither datatype nor tag.
-fn plain_front(
-    alloc: Global,
-    piece: &[u8],
-    quoted: usize,
-) -> Result<Option<(TermText, usize)>, AllocError>
-    requires { StringFront piece.now quoted }
-    ensures { IfOk result (λ o. IfSome o (λ w. IsLiteralFront piece.now w.1 w.0)) }
+/// How many bytes the text of the literal has that stands whole at the front, if one does, and how many its
+/// token has. Where it is not the longest there, what comes after it is no dot, and no blanks with a dot
+/// after them.
+#[inline]
+pub fn literal_len(piece: &[u8]) -> Option<(usize, usize)>
+    ensures { IfSome result (λ w. IsLiteralText piece.now w.0 w.1) }
 {
-    if quoted > MAX_TERM_BYTES {
-        return Ok(None);
+    let quoted = string_len(piece);
+    if quoted == 0 || quoted >= piece.len() {
+        return None;
     }
-    let term = TermText::of_canonical(alloc, &piece[..quoted])?;
-    Ok(Some((term, quoted)))
+    match piece[quoted] {
+        b'^' => typed_len(piece, quoted),
+        b'@' => tagged_len(piece, quoted),
+        _ if quoted > MAX_TERM_BYTES => None,
+        _ => Some((quoted, quoted)),
+    }
 }
 
-/// The literal that stands whole at the front, if one does, and how many bytes it has. Where it is
-/// not the longest there, what comes after it is no dot, and no blanks with a dot after them.
+/// The literal that stands whole at the front, if one does, and how many bytes it has (`literal_len`).
 #[inline]
 pub fn literal_front(alloc: Global, piece: &[u8]) -> Result<Option<(TermText, usize)>, AllocError>
     ensures { IfOk result (λ o. IfSome o (λ w. IsLiteralFront piece.now w.1 w.0)) }
 {
-    let quoted = string_len(piece);
-    if quoted == 0 || quoted >= piece.len() {
-        return Ok(None);
+    match literal_len(piece) {
+        None => Ok(None),
+        Some((text, n)) => {
+            let term = TermText::of_canonical(alloc, &piece[..text])?;
+            Ok(Some((term, n)))
+        }
     }
-    match piece[quoted] {
-        b'^' => typed_front(alloc, piece, quoted),
-        b'@' => tagged_front(alloc, piece, quoted),
-        _ => plain_front(alloc, piece, quoted),
+}
+
+/// Whether a label of ASCII begins at the front, with its mark and its first character.
+#[inline]
+fn begins_as_label(piece: &[u8]) -> bool
+    ensures { result ≡ true → LabelBegins piece.now }
+{
+    if piece.len() < 3 || piece[0] != b'_' || piece[1] != b':' || piece[2] >= 128 {
+        return false;
     }
+    begins_label(u32::from(piece[2]))
+}
+
+/// The label that stands whole at the front after its mark, before a blank, if one of ASCII without dots does.
+#[inline]
+pub fn label_front(piece: &[u8]) -> Option<&str>
+    ensures { IfSome result (λ l. LabelFront piece.now l.now) }
+{
+    if !begins_as_label(piece) {
+        return None;
+    }
+    let n = 3 + short_run_len::<InLabel>(&piece[3..]);
+    if n >= piece.len() || !is_space(u32::from(piece[n])) {
+        return None;
+    }
+    Some(ascii_str(&piece[2..n]))
 }

@@ -1,5 +1,5 @@
 use Rattle.std.proofs.lemmas.Str.{IsUtf8-from_ascii}
-use Rattle.gs_ntterm.proofs.tokens.push_ascii.Goals as goal
+use Rattle.gs_ntterm.proofs.tokens.ascii_str.Goals as goal
 
 pub from_utf8_unchecked-requires : goal.from_utf8_unchecked-requires
 from_utf8_unchecked-requires c = IsUtf8-from_ascii c.args.bytes.now c.requires
