@@ -9,3 +9,5 @@ pub mod Takes
 pub mod Histories
 pub mod RunLemmas
 pub mod WholeRuns
+pub mod LineRuns
+pub mod LineTakes

@@ -118,7 +118,7 @@ at_true : {A : Type 0} (v : Bool) (x y : A) → v ≡ true → cond v x y ≡ x
 at_true true x y e = refl
 at_true false x y e = absurd (Prim.cc)
 
-space_goes : (g : Stage) (b n : ℕ) → is_space b ≡ true → transition g Between b n ≡ no_triple (g, Between)
+pub space_goes : (g : Stage) (b n : ℕ) → is_space b ≡ true → transition g Between b n ≡ no_triple (g, Between)
 space_goes AtSubject b n k = at_true (is_space b) _ _ k
 space_goes (AtPredicate s) b n k = at_true (is_space b) _ _ k
 space_goes (AtObject s p) b n k = at_true (is_space b) _ _ k

@@ -1,12 +1,12 @@
 -- What a reader takes, step by step.
 use Rattle.std.proofs.Common.{◌≡◌, ℕ, ◌+◌, ◌<◌, false, List, [], ◌++◌, length, take, drop, get_or, refl, sym, ap, subst, ◌∙◌, append_assoc, append-nil, arith, inr, Result, Ok, Err}
 use Rattle.std.proofs.Math.Seq.{take-add}
-use Rattle.std.specs.Prelude.{OnOk, IfErr}
+use Rattle.std.specs.Prelude.{OnOk, OnErr, IfOk, IfErr}
 use Rattle.gs_model.specs.Triples.{RdfTriple}
 use Rattle.gs_model.specs.declared.refusals.Refusal.{Refusal}
 use Rattle.gs_machine.specs.Machines.{joined, steps, rest, composed}
 use Rattle.gs_machine.specs.Utf8.{Decoding, Ready, Within, Lost, bad, is_ready_of}
-use Rattle.gs_machine.proofs.MachineLemmas.{steps-snoc, steps-append}
+use Rattle.gs_machine.proofs.MachineLemmas.{steps-nil, steps-snoc, steps-append}
 use Rattle.gs_body.specs.Bodies.{Statement, Meaning, Ending, Faulty, all_stated, end_after}
 use Rattle.gs_body.proofs.LeadingLemmas.{triples_of-append, end_after-append}
 use Rattle.gs_blank.specs.Numbers.{Numbers}
@@ -20,6 +20,14 @@ use Rattle.gs_ntread.specs.declared.reader.NTriplesReader.{NTriplesReader}
 pub on_ok : {A E : Type 0} (r : Result A E) (P Q : Type 0) → (P → Q) → OnOk r P → OnOk r Q
 on_ok (Ok x) P Q f h = f h
 on_ok (Err e) P Q f h = h
+
+pub on_err : {A E : Type 0} (r : Result A E) (P Q : Type 0) → (P → Q) → OnErr r P → OnErr r Q
+on_err (Ok x) P Q f h = h
+on_err (Err e) P Q f h = f h
+
+pub if_ok : {A E : Type 0} (r : Result A E) (P Q : A → Type 0) → ((x : A) → P x → Q x) → IfOk r P → IfOk r Q
+if_ok (Ok x) P Q f h = f x h
+if_ok (Err e) P Q f h = h
 
 pub if_err : {A E : Type 0} (r : Result A E) (P Q : E → Type 0) → ((e : E) → P e → Q e) → IfErr r P → IfErr r Q
 if_err (Ok x) P Q f h = h
@@ -88,6 +96,14 @@ took-after a b c o1 o2 o3 x n k e f g =
     let at : ℕ → Led × List Statement = λ z. steps (ntriples a.request) (led_of a) (take z x) in
     let none : 0 + k ≡ k = omega arith in
     subst (λ (z : ℕ). Advances a c o1 o3 (at z)) none (took-on a b c o1 o2 o3 x 0 k (subst (λ (z : ℕ). Advances a b o1 o2 (at z)) e f) g)
+
+-- none of a piece gives nothing
+pub took-nothing : (a b : NTriplesReader) (ts us : List RdfTriple) (x : List ℕ) (n : ℕ) → n ≡ 0 → Advances a b ts us (steps (ntriples a.request) (led_of a) (take n x)) → us ≡ ts
+took-nothing a b ts us x n e h =
+    h.given
+    ∙ ap (λ (k : ℕ). ts ++ all_stated (steps (ntriples a.request) (led_of a) (take k x)).1) e
+    ∙ ap (λ (t : Led × List Statement). ts ++ all_stated t.1) (steps-nil (ntriples a.request) (led_of a))
+    ∙ append-nil ts
 
 -- the fault of a state is that of what was given
 pub fault-after : (e : Refusal) (a b : NTriplesReader) (o1 o2 : List RdfTriple) (s : LineState) (t : Led × List Statement) → Advances a b o1 o2 t → s ≡ (led_of b).1.1.0 → FaultsAs e b.last s → FaultyAfter e a.last t

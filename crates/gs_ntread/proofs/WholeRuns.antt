@@ -79,7 +79,7 @@ string_whole s p xs e l =
     (goes (g, InString Plain (Text xs)) done done 34 [] (omega arith) (λ n. refl) (stays done)))
 
 -- where a dot comes
-awaits_at_dot : (s : LineTerm) (p : Term) (o : LineTerm) (bs : List ℕ) → list_all is_space bs ≡ true → AwaitsDot (AtDot s p o, Between) s p o bs
+pub awaits_at_dot : (s : LineTerm) (p : Term) (o : LineTerm) (bs : List ℕ) → list_all is_space bs ≡ true → AwaitsDot (AtDot s p o, Between) s p o bs
 awaits_at_dot s p o bs e = record { after = (AtDot s p o, Between); run = space_runs (AtDot s p o) bs e; completes = λ n. refl }
 
 -- after a string

@@ -9,6 +9,7 @@ pub mod Machine
 pub mod Runs
 pub mod Wholes
 pub mod Views
+pub mod LineFronts
 pub mod Clauses
 pub mod Reader
 pub mod Readers

@@ -7,6 +7,7 @@ mod cursor;
 mod endings;
 mod finals;
 mod laws;
+mod lines;
 mod numbers;
 mod parts;
 mod reader;

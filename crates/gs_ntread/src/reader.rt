@@ -5,6 +5,7 @@ ghost use Rattle.gs_ntterm.specs.Marks.{char_end};
 
 use crate::cursor::Cursor;
 use crate::finals::Ending;
+use crate::lines::Taken;
 use crate::numbers;
 use crate::parts::{Parts, Within};
 use gs_blank::Numbering;
@@ -156,8 +157,40 @@ impl NTriplesReader {
         }
     }
 
-    /// What stands at the front of a piece: a run, an object with its dot, or one byte.
-    fn take_some(&mut self, piece: &[u8], triples: &mut TripleList) -> Result<usize, Refusal>
+    /// Takes the statement that stands whole at the front of a piece, where a line begins, and the line feed
+    /// after it, or its subject and its predicate alone. Answers how many bytes they have, and 0 where neither
+    /// stands there whole, and then nothing has changed.
+    #[inline]
+    fn take_line(&mut self, piece: &[u8], triples: &mut TripleList) -> Result<usize, Refusal>
+        ensures bound { IfOk result (λ n. n ≤ length piece.now) }
+        ensures ok { TakesFront self.old self.new triples.old.items triples.new.items piece.now result }
+        ensures err { OnErr result (triples.new.items ≡ triples.old.items) }
+        ensures request { self.new.request ≡ self.old.request }
+        ensures refused { IfErr result (λ e. e ≡ Refusal.NoMemory) }
+    {
+        if !self.decoder.is_ready() {
+            return Ok(0);
+        }
+        match self.cursor.take_line(piece)? {
+            Taken::Nothing => Ok(0),
+            Taken::Begun(n) => {
+                self.read = self.read.saturating_add(n as u64);
+                Ok(n)
+            }
+            Taken::Line(line, feed) => {
+                let len = line.len;
+                let end = self.read.saturating_add(len as u64);
+                numbers::push_line(self.alloc, self.request, &mut self.numbering, line, triples)?;
+                self.last = end;
+                self.read = end.saturating_add(feed as u64);
+                Ok(len + feed)
+            }
+        }
+    }
+
+    /// What stands at the front of a piece and `take_line` does not take: a run, an object with its dot, or one
+    /// byte.
+    fn take_part(&mut self, piece: &[u8], triples: &mut TripleList) -> Result<usize, Refusal>
         requires { 0 < length piece.now }
         ensures bound { IfOk result (λ n. (0 < n) × (n ≤ length piece.now)) }
         ensures ok { TakesFront self.old self.new triples.old.items triples.new.items piece.now result }
@@ -179,6 +212,22 @@ impl NTriplesReader {
                 Ok(n)
             }
         }
+    }
+
+    /// What stands at the front of a piece: a statement and the end of its line, or a part of one.
+    fn take_some(&mut self, piece: &[u8], triples: &mut TripleList) -> Result<usize, Refusal>
+        requires { 0 < length piece.now }
+        ensures bound { IfOk result (λ n. (0 < n) × (n ≤ length piece.now)) }
+        ensures ok { TakesFront self.old self.new triples.old.items triples.new.items piece.now result }
+        ensures err { OnErr result (triples.new.items ≡ triples.old.items) }
+        ensures request { self.new.request ≡ self.old.request }
+        ensures refused { IfErr result (λ e. e ≡ Refusal.NoMemory) }
+    {
+        let count = self.take_line(piece, triples)?;
+        if count > 0 {
+            return Ok(count);
+        }
+        self.take_part(piece, triples)
     }
 
     /// The next bytes.

@@ -47,7 +47,7 @@ fn object_token(alloc: Global, piece: &[u8]) -> Result<Option<(Object, usize)>, 
 }
 
 /// How many blanks come before a dot at the front, if only blanks do.
-fn blanks_to_dot(rest: &[u8]) -> Option<usize>
+pub fn blanks_to_dot(rest: &[u8]) -> Option<usize>
     ensures { IfSome result (λ k. IsDotAfter rest.now k) }
 {
     let blanks = short_run_len::<Between>(rest);

@@ -36,7 +36,7 @@ fn lines_in(alloc: Global, triples: &TripleList) -> Result<Vec<u8>, Refusal> {
 }
 
 /// The lines of the triples of a text of request 3 that comes in these pieces, in their order.
-fn lines_of(alloc: Global, pieces: &[&[u8]]) -> Result<Vec<u8>, Refusal> {
+pub fn lines_of(alloc: Global, pieces: &[&[u8]]) -> Result<Vec<u8>, Refusal> {
     let mut reader = NTriplesReader::new(alloc, 3);
     let mut triples = TripleList::new(alloc);
     let read = read(&mut reader, pieces, &mut triples);
@@ -78,7 +78,7 @@ fn a_relative_iri_is_a_fault(rt: HostRuntime) {
 }
 
 /// The fault of a text in parts.
-fn fault_of(alloc: Global, parts: &[&[u8]]) -> Option<Refusal> {
+pub fn fault_of(alloc: Global, parts: &[&[u8]]) -> Option<Refusal> {
     let mut reader = NTriplesReader::new(alloc, 1);
     let mut triples = TripleList::new(alloc);
     let read = read(&mut reader, parts, &mut triples);
