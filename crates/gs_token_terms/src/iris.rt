@@ -18,6 +18,9 @@ use gs_model::{Fault, MAX_TERM_BYTES, Refusal, memory_apart};
 use gs_term::TermText;
 use std::alloc::{AllocError, Global};
 
+/// Room for so many bytes of a base is made at once.
+const LONG: usize = 128;
+
 /// The IRI of a text.
 #[tactic(auto, unfolding(gs_triples::specs::Meanings::made_of))]
 fn made_iri(alloc: Global, text: &str) -> Result<Result<TermText, Fault>, AllocError>
@@ -80,7 +83,7 @@ fn marked_text(alloc: Global, base: &str, reference: &str) -> Result<Option<Stri
     requires characters { list_all is_iri_char reference.now ≡ true }
     ensures { Yields result (Some (less_than ∷ resolved base.now reference.now)) }
 {
-    let mut text = String::with_capacity(alloc, reference.len() + 2)?;
+    let mut text = String::with_capacity(alloc, reference.len() + base.len().min(LONG) + 2)?;
     text.push_str("<")?;
     match memory_apart(gs_iri::resolve_under(base, reference, &mut text))? {
         Ok(()) => {

@@ -35,7 +35,7 @@ pub fn decoded(alloc: Global, text: &str) -> Result<Option<LexicalForm<'_>>, All
     if let Some(form) = bare_form(text) {
         return Ok(Some(LexicalForm::Standing(form)));
     }
-    let mut meaning = String::new(alloc);
+    let mut meaning = String::with_capacity(alloc, text.len())?;
     match memory_apart(gs_escape::string(text.as_bytes(), &mut meaning))? {
         Ok(()) => Ok(Some(LexicalForm::Decoded(meaning))),
         Err(_) => Ok(None),
