@@ -22,8 +22,7 @@ impl Form {
 
     /// The form of what an event brings. `None` for one that brings neither a list nor operations, for more
     /// than 1,024 operations, and where memory is refused: then a list is packed as it is staged, and
-    /// operations are kept as they came. Linear
-    /// in what the event brings.
+    /// operations are kept as they came. Linear in what the event brings.
     pub fn of(alloc: Global, event: &Event) -> Option<Form>
         ensures { IfSome result (IsFormOf event.now) }
     {

@@ -20,16 +20,6 @@ taken_none [] (p ∷ ps) same = absurd (cc)
 taken_none (f ∷ fs) [] same = absurd (cc)
 taken_none (f ∷ fs) (p ∷ ps) same = (cc, refl, taken_none fs ps (cc))
 
--- there are as many operations as forms
-pub taken_inside : (i : ℕ) (fs : List KeptOp) (os ps : List Op) → Taken i fs os ps → length os ≡ length fs
-taken_inside i [] [] [] h = refl
-taken_inside i [] [] (p ∷ ps) h = absurd h
-taken_inside i [] (o ∷ os) ps h = absurd h
-taken_inside i (f ∷ fs) [] ps h = absurd h
-taken_inside i (f ∷ fs) (o ∷ os) [] h = absurd h
-taken_inside zero (f ∷ fs) (o ∷ os) (p ∷ ps) h = ap suc (taken_inside zero fs os ps h.2)
-taken_inside (suc i) (f ∷ fs) (o ∷ os) (p ∷ ps) h = ap suc (taken_inside i fs os ps h.1)
-
 -- the next form is one of the next operation
 pub taken_next : (i : ℕ) (fs : List KeptOp) (os ps : List Op) (d : KeptOp) (e : Op) → Taken i fs os ps → i < length fs → kept_brings (get_or fs i d) ≡ brings (get_or os i e)
 taken_next i [] os ps d e h inside = absurd (omega (arith, inside))

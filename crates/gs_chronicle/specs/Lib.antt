@@ -1,5 +1,6 @@
--- Read in this order: as how many triples a page counts what it stores, which triples kept lists have, what an upload holds, and an open one; the same of patches;
--- the kinds of calls, what they asked and how a page keeps them; what an entry and a page show; and how a page replays.
+-- Read in this order: as how many triples a page counts what it stores, which triples kept lists have, what an upload holds,
+-- and an open one; the same of patches; the kinds of calls, what they asked and how a page keeps them; what an entry and a page
+-- show; and how a page replays.
 pub mod Sizes
 pub mod KeptLists
 pub mod Uploads

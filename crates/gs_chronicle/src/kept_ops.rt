@@ -1,5 +1,5 @@
 //! The operations of a patch, as a page stores them.
-ghost use Rattle.std.specs.Prelude.{◌≡◌, map, IfOk, IfSome};
+ghost use Rattle.std.specs.Prelude.{◌≡◌, ◌≤◌, length, map, IfOk, IfSome};
 ghost use Rattle.gs_chronicle.specs.KeptOps.{kept_op, kept_brings, brings, ops_kept};
 
 use gs_event::Op;
@@ -60,7 +60,8 @@ fn all_forms(alloc: Global, ops: &[Op]) -> Result<Vec<KeptOp>, AllocError>
 /// How a page keeps these operations, without patterns, which it takes from them when it stores them. `None`
 /// where there are more than 1,024, or memory is refused. Linear in what they bring.
 pub fn forms_of(alloc: Global, ops: &[Op]) -> Option<Vec<KeptOp>>
-    ensures { IfSome result (λ v. map kept_brings v.items ≡ map brings ops.now) }
+    ensures forms { IfSome result (λ v. map kept_brings v.items ≡ map brings ops.now) }
+    ensures few { IfSome result (λ v. length ops.now ≤ 1_024) }
 {
     if ops.len() > MOST_FORMS {
         return None;

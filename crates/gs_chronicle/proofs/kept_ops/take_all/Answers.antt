@@ -1,5 +1,5 @@
-use Rattle.std.proofs.Common.{◌∙◌, sym, arith}
-use Rattle.gs_chronicle.proofs.KeptOpLemmas.{taken_none, taken_inside, taken_next, taken_more, taken_all}
+use Rattle.std.proofs.Common.{arith}
+use Rattle.gs_chronicle.proofs.KeptOpLemmas.{taken_none, taken_next, taken_more, taken_all}
 use Rattle.gs_chronicle.proofs.kept_ops.take_all.Goals as goal
 
 pub loop-place-init : goal.loop-place-init
