@@ -15,6 +15,7 @@ mod ways;
 
 pub use classes::is_line_end;
 pub use fronts::over_front;
+pub use runs::{InIri, Run, run_end};
 pub use scans::{Scan, read_on};
 pub use states::{Left, Mark, State, Text};
 pub use symbols::{Symbol, front_at};

@@ -1,5 +1,5 @@
 //! Runs of plain characters, over which the automaton stays where it is.
-ghost use Rattle.std.specs.Prelude.{◌≡◌, ◌≤◌, ◌<◌, ℕ, Bool, length};
+ghost use Rattle.std.specs.Prelude.{◌≡◌, ◌≤◌, ◌<◌, ℕ, Bool, false, get_or, length};
 ghost use Rattle.gs_automaton.specs.Classes as class;
 ghost use Rattle.gs_automaton.specs.Runs as spec;
 ghost use Rattle.gs_automaton.specs.Runs.{AllFrom};
@@ -112,6 +112,7 @@ pub fn run_end<R: Run>(text: &[u8], from: usize) -> usize
     ensures after { from ≤ result }
     ensures within { result ≤ length text.now }
     ensures all { AllFrom R.plain text.now from result }
+    ensures longest { result < length text.now → R.plain (get_or text.now result 0) ≡ false }
 {
     for i in from..text.len() {
         if !R::has(text[i]) {

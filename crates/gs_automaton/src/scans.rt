@@ -58,7 +58,7 @@ impl Scan {
 
     /// At a place after, in the same state.
     #[inline(always)]
-    pub fn stay(self, len: usize) -> Self
+    pub(crate) fn stay(self, len: usize) -> Self
         requires best { self.best_len ≤ self.len }
         requires onward { self.len ≤ len }
         ensures stayed { result ≡ stay_of self len }

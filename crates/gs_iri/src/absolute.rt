@@ -5,6 +5,7 @@ ghost use Rattle.gs_model.specs.Characters.{is_iri_char};
 ghost use Rattle.gs_model.specs.Iris.{is_absolute as is_absolute_text, is_letter as is_letter_of, is_scheme_char as is_scheme_char_of, is_scheme_rest as is_scheme_rest_of};
 
 /// A letter of ASCII.
+#[inline]
 pub fn is_letter(b: u8) -> bool
     ensures { result ≡ is_letter_of b }
 {
@@ -12,7 +13,8 @@ pub fn is_letter(b: u8) -> bool
 }
 
 /// A byte that may go on with a scheme.
-fn is_scheme_char(b: u8) -> bool
+#[inline]
+pub fn is_scheme_char(b: u8) -> bool
     ensures { result ≡ is_scheme_char_of b }
 {
     matches!(b, b'A'..=b'Z' | b'a'..=b'z' | b'0'..=b'9' | b'+' | b'-' | b'.')

@@ -7,6 +7,6 @@ mod laws;
 mod references;
 mod resolving;
 
-pub use absolute::is_absolute;
+pub use absolute::{are_iri_bytes, is_absolute, is_letter, is_scheme_char};
 pub use laws::{absolute_by_characters, absolute_is, parts_rejoin, resolved_is_absolute};
 pub use resolving::{resolve, resolve_under};

@@ -4,7 +4,7 @@ ghost use Rattle.std.specs.Str.{bytes_eq};
 ghost use Rattle.gs_model.specs.Limits.{max_term_bytes};
 ghost use Rattle.std.specs.List.{list_all};
 ghost use Rattle.gs_model.specs.Characters.{is_lower as is_lower_of, is_iri_char};
-ghost use Rattle.gs_model.specs.Iris.{is_absolute, is_letter as is_letter_of, is_scheme_char as is_scheme_char_of};
+ghost use Rattle.gs_model.specs.Iris.{is_absolute};
 ghost use Rattle.gs_model.specs.Texts.{term_of};
 ghost use Rattle.gs_ntterm.specs.Wholes.{IriFront, IsIriFront, StringFront, DatatypeFront, TagFront, IsLiteralFront, IsLiteralText, LabelBegins, LabelFront, string_suffix};
 
@@ -12,6 +12,7 @@ use crate::classes::{begins_label, is_space};
 use crate::names::Name;
 use crate::runs::{Class, InIri, InLabel, InString, run_len, short_run_len};
 use crate::tokens::ascii_str;
+use gs_iri::{is_letter, is_scheme_char};
 use gs_model::MAX_TERM_BYTES;
 use gs_term::TermText;
 use std::alloc::{AllocError, Global};
@@ -29,22 +30,6 @@ impl Class for InTag {
     fn has(b: u8) -> bool {
         matches!(b, b'a'..=b'z')
     }
-}
-
-/// A letter of ASCII.
-#[inline]
-fn is_letter(b: u8) -> bool
-    ensures { result ≡ is_letter_of b }
-{
-    b.is_ascii_alphabetic()
-}
-
-/// A byte that may go on with a scheme.
-#[inline]
-fn is_scheme_char(b: u8) -> bool
-    ensures { result ≡ is_scheme_char_of b }
-{
-    matches!(b, b'a'..=b'z' | b'A'..=b'Z' | b'0'..=b'9' | b'+' | b'-' | b'.')
 }
 
 /// Whether bytes of an IRI are an absolute one: its scheme is all that is looked at.

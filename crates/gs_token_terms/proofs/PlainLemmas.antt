@@ -1,5 +1,5 @@
 -- Texts of tokens whose bytes all stand mean themselves.
-use Rattle.std.proofs.Common.{◌≡◌, ℕ, ◌-◌, ◌==◌, Bool, true, false, cond, List, [], ◌∷◌, ◌++◌, length, take, drop, refl, sym, ap, ◌∙◌, arith, subst, length-append, append_assoc}
+use Rattle.std.proofs.Common.{◌≡◌, ℕ, ◌-◌, ◌≤◌, ◌==◌, Bool, true, false, cond, List, [], ◌∷◌, ◌++◌, length, take, drop, refl, sym, ap, zero, suc, ◌∙◌, arith, subst, length-append, append_assoc}
 use Rattle.std.specs.Prelude.{Option, Some, None, option_and_then, encode_utf8, not, ◌&&◌, ◌||◌}
 use Rattle.std.specs.Option.{option_or}
 use Rattle.std.specs.List.{list_all}
@@ -8,6 +8,7 @@ use Rattle.std.proofs.lemmas.Str.{is_utf8-from_IsUtf8}
 use Rattle.std.proofs.lemmas.Bool.{and_parts, and_from, not-true, eqb-true}
 use Rattle.std.proofs.lemmas.Bool.Decides.{nat_tests}
 use Rattle.gs_model.specs.Characters.{is_iri_char}
+use Rattle.gs_automaton.specs.Runs.{AllFrom, plain_iri}
 use Rattle.gs_escape.specs.declared.forms.Form.{Form}
 use Rattle.gs_escape.specs.declared.forms.Form.TheVariants as form
 use Rattle.gs_escape.specs.Escapes.{escape}
@@ -51,6 +52,14 @@ iri_local c h = grind (arith, nat_tests)
 -- a local part of IRI characters
 pub plain_local : (xs : List ℕ) → list_all is_iri_char xs ≡ true → IsUtf8 xs → local_of xs ≡ Some xs
 plain_local = itself form.Local is_iri_char (λ c cs h. iri_local c h)
+
+-- plain characters of an IRI at the front may be left out of the test
+pub iri_rest : (x : List ℕ) (n : ℕ) → n ≤ length x → AllFrom plain_iri x 0 n → list_all is_iri_char (drop n x) ≡ list_all is_iri_char x
+iri_rest x zero l h = refl
+iri_rest [] (suc n) l h = absurd (omega (arith, l))
+iri_rest (b ∷ bs) (suc n) l h =
+    iri_rest bs n (omega (arith, l)) (λ i m k. h (suc i) (omega arith) (omega (arith, k)))
+    ∙ sym (ap (λ t. t && list_all is_iri_char bs) (and_parts _ _ (h 0 (omega arith) (omega arith))).1)
 
 -- a front and a back taken away
 front-append : (xs ys : List ℕ) → take (length xs) (xs ++ ys) ≡ xs

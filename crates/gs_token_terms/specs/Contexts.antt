@@ -1,5 +1,5 @@
 -- The texts of references, what they and declarations count, and the context that a declaration leaves.
-use Rattle.std.specs.Prelude.{◌≡◌, ℕ, ◌*◌, ◌-◌, ◌^◌, min, sum_by, length, ◌+◌, ◌≤◌, ◌==◌, List, Bool, true, false, not, ◌&&◌, nat_lt, if◌then◌else◌, Option, Some, None, option_map, Result, IfOk, IsOk, String, string_bytes}
+use Rattle.std.specs.Prelude.{◌≡◌, ℕ, ◌-◌, ◌^◌, min, sum_by, length, ◌+◌, ◌≤◌, ◌==◌, List, Bool, true, false, not, ◌&&◌, nat_lt, if◌then◌else◌, Option, Some, None, option_map, Result, IfOk, IsOk, String, string_bytes}
 use Rattle.gs_triples.specs.Meanings.{Context}
 use Rattle.gs_model.specs.Terms.{Term}
 use Rattle.gs_model.specs.Triples.{RdfTriple}

@@ -18,8 +18,8 @@ use gs_model::{Fault, MAX_TERM_BYTES, Refusal, memory_apart};
 use gs_term::TermText;
 use std::alloc::{AllocError, Global};
 
-/// Room for so many bytes of a base is made at once.
-const LONG: usize = 128;
+/// Room for so many bytes of a base is made at once, where it has as many.
+const BASE_ROOM_BYTES: usize = 128;
 
 /// The IRI of a text.
 #[tactic(auto, unfolding(gs_triples::specs::Meanings::made_of))]
@@ -66,9 +66,9 @@ pub fn named_iri(
     }
 }
 
-/// A text in a block of its size, where at most half of its block is filled. A reference with `..` is
-/// written after the whole directory of the base, which then is cut. Where memory for the smaller block is
-/// refused, the text stays where it is.
+/// A text in a block of its size, where at most half of its block is filled: room is made for the base,
+/// of which a reference may leave little, and one with `..` is written after the whole directory of the
+/// base, which then is cut. Where memory for the smaller block is refused, the text stays where it is.
 pub fn fit(text: &mut String)
     ensures { string_bytes text.new ≡ string_bytes text.old }
 {
@@ -83,7 +83,10 @@ fn marked_text(alloc: Global, base: &str, reference: &str) -> Result<Option<Stri
     requires characters { list_all is_iri_char reference.now ≡ true }
     ensures { Yields result (Some (less_than ∷ resolved base.now reference.now)) }
 {
-    let mut text = String::with_capacity(alloc, reference.len() + base.len().min(LONG) + 2)?;
+    let mut text = String::with_capacity(
+        alloc,
+        reference.len() + base.len().min(BASE_ROOM_BYTES) + 2,
+    )?;
     text.push_str("<")?;
     match memory_apart(gs_iri::resolve_under(base, reference, &mut text))? {
         Ok(()) => {

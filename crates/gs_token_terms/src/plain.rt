@@ -1,9 +1,15 @@
 //! Tokens whose meaning stands in their text.
-ghost use Rattle.std.specs.Prelude.{◌≡◌, ◌<◌, true, false, Some, IfSome};
+ghost use Rattle.std.specs.Prelude.{◌≡◌, ◌<◌, ◌≤◌, true, false, Some, IfSome, length};
 ghost use Rattle.std.specs.List.{list_all};
-ghost use Rattle.gs_model.specs.Characters.{is_lower, is_iri_char as is_iri_char_of};
+ghost use Rattle.gs_model.specs.Characters.{is_lower, is_iri_char};
+ghost use Rattle.gs_automaton.specs.Runs.{AllFrom, plain_iri};
 ghost use Rattle.gs_escape.specs.Tokens.{string_of};
 ghost use Rattle.gs_token_terms.specs.Plain.{are_bare as are_bare_of, is_plain_in, is_quote, is_small_tag as is_small_tag_of, StandsIn, IsPlainString, IsPlainReference};
+
+use gs_automaton::{InIri, run_end};
+
+/// So many bytes a compiler tests at once. Of fewer, those of ASCII are tested by the automaton's table.
+const MANY: usize = 16;
 
 /// The text between two bytes of ASCII.
 fn inside(text: &str, front: u8, back: u8) -> Option<&str>
@@ -38,22 +44,24 @@ pub fn are_plain(quote: u8, bytes: &[u8]) -> bool
     are
 }
 
-/// A byte of an IRI character: those that are excluded are ASCII.
-fn is_iri_byte(b: u8) -> bool
-    ensures { result ≡ is_iri_char_of b }
+/// How many plain bytes of an IRI stand at the front of a short text, and 0 of a long one.
+fn plain_front(bytes: &[u8]) -> usize
+    ensures within { result ≤ length bytes.now }
+    ensures plain { AllFrom plain_iri bytes.now 0 result }
 {
-    !matches!(b, 0..=b' ' | b'"' | b'<' | b'>' | b'\\' | b'^' | b'`' | b'{'..=b'}')
+    if bytes.len() < MANY {
+        run_end::<InIri>(bytes, 0)
+    } else {
+        0
+    }
 }
 
 /// Whether all are bytes of IRI characters, of which the backslash is none.
 pub fn are_iri_bytes(bytes: &[u8]) -> bool
-    ensures { result ≡ list_all is_iri_char_of bytes.now }
+    ensures { result ≡ list_all is_iri_char bytes.now }
 {
-    let mut are = true;
-    for b in bytes {
-        are &= is_iri_byte(*b);
-    }
-    are
+    let front = plain_front(bytes);
+    gs_iri::are_iri_bytes(&bytes[front..])
 }
 
 /// Whether all are small letters.

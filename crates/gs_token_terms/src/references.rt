@@ -1,14 +1,8 @@
 //! References that mean themselves under each base, and those that need none.
 ghost use Rattle.std.specs.Prelude.{◌≡◌, true, false};
-ghost use Rattle.gs_model.specs.Iris.{is_scheme_char};
 ghost use Rattle.gs_token_terms.specs.References.{ends_scheme, has_scheme, has_dot_after, IsItself};
 
-/// A byte that a scheme may have after its first.
-fn is_scheme_byte(b: u8) -> bool
-    ensures { result ≡ is_scheme_char b }
-{
-    matches!(b, b'A'..=b'Z' | b'a'..=b'z' | b'0'..=b'9' | b'+' | b'-' | b'.')
-}
+use gs_iri::is_scheme_char;
 
 /// Whether the first byte that no scheme has is a ':'.
 fn ends_scheme(bytes: &[u8]) -> bool
@@ -18,7 +12,7 @@ fn ends_scheme(bytes: &[u8]) -> bool
         if *b == b':' {
             return true;
         }
-        if !is_scheme_byte(*b) {
+        if !is_scheme_char(*b) {
             return false;
         }
     }
