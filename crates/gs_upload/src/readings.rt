@@ -85,6 +85,7 @@ impl<R: BodyReader + Drop> Reading<R> {
             text.now triples.old.items triples.new.items) }
         ensures kept { OnErr result (Begins triples.new.items triples.old.items) }
         ensures refused { OnErr result (IsClosedReading R.is_closed self.new) }
+        ensures closed { IsClosedReading R.is_closed self.old → IsErr result }
     {
         let mut rest = text;
         while 0 < length && length < rest.len() {
@@ -108,6 +109,7 @@ impl<R: BodyReader + Drop> Reading<R> {
             text.now triples.old.items triples.new.items) }
         ensures kept { OnErr result (triples.new.items ≡ triples.old.items) }
         ensures refused { OnErr result (IsClosedReading R.is_closed self.new) }
+        ensures closed { IsClosedReading R.is_closed self.old → IsErr result }
     {
         let before = triples.len();
         match self.feed_each(text, length, triples) {

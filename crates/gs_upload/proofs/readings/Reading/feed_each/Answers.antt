@@ -2,6 +2,7 @@ use Rattle.std.proofs.Common.{◌∷◌, [], ◌++◌, ◌≤◌, ◌<◌, lengt
 use Rattle.std.proofs.lemmas.Result.{on_err_weaker, on_ok_weaker}
 use Rattle.gs_model.specs.Triples.{RdfTriple}
 use Rattle.gs_machine.specs.Machines.{Begins}
+use Rattle.gs_upload.specs.Readings.{IsClosedReading}
 use Rattle.gs_upload.proofs.ReadingLemmas.{FeedsEach-more, any_err, each_grows}
 use Rattle.gs_upload.proofs.CuttingLemmas.{cutting-more, cutting-last}
 use Rattle.gs_upload.proofs.readings.Reading.feed_each.Goals as goal
@@ -22,6 +23,7 @@ loop-rest-preserved g c =
       i.0 ++ piece ∷ [],
       cutting-more c.args.length c.args.text.now c.loop-rest.rest.now piece c.split_at.result.1.now i.0 i.1 (omega arith) (omega arith) c.split_at.ensures.front c.split_at.ensures.back,
       FeedsEach-more b.meaning_of b.Leads b.is_closed i.0 c.args.self.now c.loop-rest.self c.feed.new.self piece c.args.triples.now.items c.loop-rest.triples.items c.feed.new.triples.items i.2 c.in_ok-feed.ensures.given,
+      (λ h. Prim.cc (c.in_ok-feed.ensures.closed (subst (λ k. IsClosedReading b.is_closed k) (sym (i.3 h)) h))),
     )
 
 pub returns-clause-pieces : goal.returns-clause-pieces
@@ -44,3 +46,8 @@ returns-clause-kept g c =
     let i = c.loop-rest.invariant in
     let P : List RdfTriple → Type 0 = λ ts. Begins ts c.args.triples.now.items in
     on_err_weaker c.feed-2.result (λ same. subst P (sym same) (each_grows b.meaning_of b.Leads b.is_closed i.0 c.args.self.now c.loop-rest.self c.args.triples.now.items c.loop-rest.triples.items i.2)) c.feed-2.ensures.kept
+
+pub returns-clause-closed : goal.returns-clause-closed
+returns-clause-closed g c h =
+    let b = g.R.BodyReader in
+    c.feed-2.ensures.closed (subst (λ k. IsClosedReading b.is_closed k) (sym (c.loop-rest.invariant.3 h)) h)
