@@ -170,4 +170,5 @@ def main():
 
 
 os.environ["LC_ALL"] = "C"
-main()
+if __name__ == "__main__":
+    main()

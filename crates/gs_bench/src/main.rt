@@ -55,24 +55,46 @@ fn wanted(rt: &(impl Env + AllocGlobal)) -> io::Result<Mode> {
     }
 }
 
-/// How many triples a reader gives of a piece.
-fn count_piece<B: BodyReader>(alloc: Global, reader: &mut B, piece: &[u8]) -> Result<u64, Refusal> {
-    let mut triples = TripleList::new(alloc);
-    let fed = reader.feed(piece, &mut triples);
-    let counted = triples.len() as u64;
-    drop(triples);
-    fed?;
-    Ok(counted)
+/// How many triples a reader gives of a piece, into a list that is cleared before.
+fn count_piece<B: BodyReader>(
+    reader: &mut B,
+    piece: &[u8],
+    triples: &mut TripleList,
+) -> Result<u64, Refusal> {
+    triples.clear();
+    reader.feed(piece, triples)?;
+    Ok(triples.len() as u64)
 }
 
 /// How many triples it gives as the text ends.
-fn count_end<B: BodyReader>(alloc: Global, reader: &mut B) -> Result<u64, Refusal> {
-    let mut triples = TripleList::new(alloc);
-    let ended = reader.finish(&mut triples);
-    let counted = triples.len() as u64;
-    drop(triples);
-    ended?;
-    Ok(counted)
+fn count_end<B: BodyReader>(reader: &mut B, triples: &mut TripleList) -> Result<u64, Refusal> {
+    triples.clear();
+    reader.finish(triples)?;
+    Ok(triples.len() as u64)
+}
+
+/// How many triples a reader finds in the pieces of an input, or the text's fault.
+fn count_pieces<R: Read, B: BodyReader>(
+    reader: &mut B,
+    input: &mut R,
+    piece: &mut [u8],
+    triples: &mut TripleList,
+) -> io::Result<Result<u64, Refusal>> {
+    let mut counted = 0u64;
+    for _ in 0..u64::MAX {
+        let read = input.read(piece)?;
+        if read == 0 {
+            break;
+        }
+        match count_piece(reader, &piece[..read], triples) {
+            Ok(more) => counted = counted.saturating_add(more),
+            Err(refusal) => return Ok(Err(refusal)),
+        }
+    }
+    match count_end(reader, triples) {
+        Ok(more) => Ok(Ok(counted.saturating_add(more))),
+        Err(refusal) => Ok(Err(refusal)),
+    }
 }
 
 /// How many triples a reader finds in the text, or the text's fault.
@@ -83,27 +105,28 @@ fn count<R: Read, B: BodyReader + Drop>(
     size: usize,
 ) -> io::Result<Result<u64, Refusal>> {
     let mut piece = vec![in alloc; 0u8; size]?;
-    let mut counted = 0u64;
-    for _ in 0..u64::MAX {
-        let read = input.read(&mut piece)?;
-        if read == 0 {
-            break;
-        }
-        match count_piece(alloc, &mut reader, &piece[..read]) {
-            Ok(more) => counted = counted.saturating_add(more),
-            Err(refusal) => return Ok(Err(refusal)),
-        }
-    }
-    match count_end(alloc, &mut reader) {
-        Ok(more) => Ok(Ok(counted.saturating_add(more))),
-        Err(refusal) => Ok(Err(refusal)),
-    }
+    let mut triples = TripleList::new(alloc);
+    let counted = count_pieces(&mut reader, input, &mut piece, &mut triples);
+    drop(triples);
+    counted
 }
 
 /// How many triples a reader finds in the whole text, which is one piece.
+fn count_in<B: BodyReader>(
+    reader: &mut B,
+    text: &[u8],
+    triples: &mut TripleList,
+) -> Result<u64, Refusal> {
+    let counted = count_piece(reader, text, triples)?;
+    Ok(counted.saturating_add(count_end(reader, triples)?))
+}
+
+/// The same, in a list of its own.
 fn count_whole<B: BodyReader>(alloc: Global, reader: &mut B, text: &[u8]) -> Result<u64, Refusal> {
-    let counted = count_piece(alloc, reader, text)?;
-    Ok(counted.saturating_add(count_end(alloc, reader)?))
+    let mut triples = TripleList::new(alloc);
+    let counted = count_in(reader, text, &mut triples);
+    drop(triples);
+    counted
 }
 
 /// How many triples of Turtle the text has, or its fault.
