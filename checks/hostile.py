@@ -437,9 +437,9 @@ DEAR = [
      "".join(f"PREFIX p{k}: <http://e/{'a' * 5_000}{k}> " for k in range(200)) + f"<a:a> <a:b> {','.join(f'p{k % 200}:' for k in range(200_000))} .", 0.5, 204, 200),
     ("a body of 970 kB, whose every term is another one of 65,000 bytes by its prefix", "PUT", "text/turtle",
      f"PREFIX p: <http://e/{LONG}> " + "".join(f"p:{3 * k} p:{3 * k + 1} p:{3 * k + 2} . " for k in range(35_000)), 1.0, 503, 1),
-    ("an update of 1,040 kB, 86,000 times one triple of a prefix of 65,000 bytes", "PATCH", "application/sparql-update",
+    ("an update of 1,011 kB, 86,000 times one triple of a prefix of 65,000 bytes", "PATCH", "application/sparql-update",
      f"PREFIX p: <http://e/{LONG}> INSERT DATA {{ {'p: p: p: . ' * 86_000} }}", 1.0, 204, 2),
-    ("the same, deleted", "PATCH", "application/sparql-update",
+    ("the same, deleted 85,000 times", "PATCH", "application/sparql-update",
      f"PREFIX p: <http://e/{LONG}> INSERT DATA {{ p: p: p: }} ; DELETE DATA {{ {'p: p: p: . ' * 85_000} }}", 1.0, 204, 1),
 ]
 
