@@ -1,4 +1,4 @@
-//! Each test is its ranges, and answers for ASCII without going through them.
+//! Each test is its ranges. That of `pn_chars_base` answers for ASCII without going through them.
 ghost use Rattle.std.specs.Prelude.{◌≡◌};
 ghost use Rattle.gs_model.specs.Characters.{in_ranges, pn_chars_base, pn_chars_u, pn_chars, is_iri_char as may_stand_in_iri};
 

@@ -30,8 +30,8 @@ pub fn end_tree(pool: &mut Pool, versions: &mut Versions, root: Option<u32>)
     versions.advance();
 }
 
-/// Drops the tree of an upload that no version had: for a Cancel, and for a PUT or a new graph that is
-/// not stored.
+/// Drops the tree of an upload that no version had: for a Cancel, for an upload that comes too late, and
+/// for a PUT or a new graph that is not stored.
 pub fn drop_tree(pool: &mut Pool, root: Option<u32>)
     requires { CanRetireRoot pool.old root }
     ensures ledgers { DropsAll pool.old pool.new root }

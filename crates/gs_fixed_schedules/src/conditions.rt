@@ -7,7 +7,7 @@ use std::alloc::Global;
 /// Two editors of `http://e/a` write on the condition that nobody has written it since they looked. Of two at a time
 /// the first to commit is taken, and the other has the number of that commit for an answer. Then nothing of its graph is
 /// changed, its upload is given up, and the nodes and the record of that are freed by the next Reclaim. At most
-/// three are freed after each step.
+/// three are freed after each step but one.
 const STEPS: &str = r#"
 # Both editors, at seats 1 and 2, see commit 1, and so does a read at seat 3.
 0 put a | opened 1 | 1 | 0

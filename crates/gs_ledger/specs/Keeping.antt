@@ -26,7 +26,7 @@ PutKeeps =
     → Buries p q (died_whole (v.commit + 1) old)
     → IsLedger q (at_commit v (v.commit + 1)) (new ∷ graphs) uploads reads (died_whole (v.commit + 1) old ++ dead)
 
--- A Cancel, and a PUT or a new graph that is not stored: the upload is retired whole, with death 0, so no version needs it.
+-- A Cancel, an upload that comes too late, and a PUT or a new graph that is not stored: the upload is retired whole, with death 0, so no version needs it.
 abbrev pub CancelKeeps : Type 0
 CancelKeeps =
     (p q : Nodes) (v : Pins) (old : Tree) (graphs uploads : List Tree) (reads : List (List Tree)) (dead : List Dead)

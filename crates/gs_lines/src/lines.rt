@@ -20,7 +20,7 @@ const MARKS: usize = 5;
 const NAME_MARK: usize = 1;
 
 /// Room that is left after lines: where no more than 236 bytes are due before them, as the head of a
-/// reply, which has 103 at most, these and the frame of a chunk go around the lines in their memory.
+/// reply, which has 139 at most, these and the frame of a chunk go around the lines in their memory.
 const FRAME_ROOM: usize = 256;
 
 /// The text of a number that was given.

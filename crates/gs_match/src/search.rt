@@ -66,7 +66,8 @@ fn collect(
 }
 
 /// The keys of a root whose triples are instances of the patterns under a solution of all of them,
-/// in the root's order and each once, and how many keys were looked at for them.
+/// in the root's order and each once, and how many keys their join looked at, 0 where one pattern stands
+/// alone.
 pub fn solve_counted(
     alloc: Global,
     pool: &Pool,

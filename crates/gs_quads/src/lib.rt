@@ -1,4 +1,4 @@
-//! The next lines of a read of all graphs: a piece of them from a place, and the place after it.
+//! The next lines of a read of all graphs: a piece of them from a place, and the place of its last line.
 #![tactic(auto)]
 
 mod laws;

@@ -1,5 +1,5 @@
 //! A document whose triples are made by their places, the same in each run: one new term for two
-//! triples, and 47 bytes a term.
+//! triples, and some 47 bytes a term.
 use gs_model::Refusal;
 use gs_term::TermText;
 use std::alloc::{AllocError, Global};

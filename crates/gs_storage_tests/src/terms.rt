@@ -104,7 +104,7 @@ fn is_given(dict: &mut Dict, term: &TermText, wanted: u32) -> Result<bool, Refus
     Ok(id.number == wanted && again == id && dict.has(id) && dict.text(id) == term.as_bytes())
 }
 
-/// Terms that differ in one byte, in the order of their numbers: an IRI after `<`, a literal after `"`, and
+/// Terms that differ in a byte or two, in the order of their numbers: an IRI after `<`, a literal after `"`, and
 /// else a blank node, by its request and its label.
 const NEAR: &str = "<e:long/a
 \"e:long/a
@@ -152,7 +152,7 @@ fn wrong_row(alloc: Global, dict: &mut Dict) -> Result<Option<&'static str>, Ref
 }
 
 #[test]
-fn terms_that_differ_in_one_byte_have_two_numbers(rt: HostRuntime) -> Result<(), Fail> {
+fn terms_that_are_nearly_alike_have_two_numbers(rt: HostRuntime) -> Result<(), Fail> {
     let mut dict = Dict::new(rt.alloc(), 3, u32::MAX)?;
     let wrong = wrong_row(rt.alloc(), &mut dict);
     drop(dict);

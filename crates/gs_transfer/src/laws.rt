@@ -1,8 +1,9 @@
 //! Laws of the definitions, proved: each body is empty, and the contract is the law.
 ghost use Rattle.gs_transfer.specs.Laws.{ChunkedIsTheGrammar, SizedIsTheFront, StaysWhole, StaysFaulty};
 
-/// A body in chunks is whole exactly where the grammar of RFC 9112, section 7.1, has it at the front
-/// of the text, its data within the limit.
+/// A body in chunks is whole exactly where the grammar has it at the front of the text, its data within the
+/// limit: that of RFC 9112, section 7.1, with sizes of at most 16 digits, and with extensions and trailers
+/// of any bytes that end no line.
 pub fn chunked_is_the_grammar()
     ensures { ChunkedIsTheGrammar }
 {}

@@ -39,8 +39,9 @@ fn take_text(parser: &mut UpdateParser, text: &[u8]) -> Result<(), Refusal>
 ///   operation before the fault, 0 where there is none.
 /// - `TermTooLong`: a term's canonical text is too long.
 /// - `NotInProfile`: the text's first departure from what is served is an update's.
-/// - `NoMemory`: memory was wanted and not given, or the texts of the triples and of the prefixes have
-///   more than 16 MiB and 64 bytes for each byte of the text.
+/// - `NoMemory`: memory was wanted and not given, or no number is left for a blank node; a base has more
+///   than 131,072 bytes; the texts of the triples and of the prefixes have more than 16 MiB and 64 bytes
+///   for each byte of the text, or 32 GiB more were made.
 pub fn read_update(alloc: Global, request: u64, base: &str, text: &[u8]) -> Result<Vec<Op>, Refusal>
     requires { is_absolute base.now ≡ true }
     ensures { Answers result (request_by base.now request text.now) }

@@ -155,7 +155,7 @@ fn serve<
 
 /// Binds the address, and serves the connections that come, 2^64 - 1 at most. Where it listens is said
 /// once the first of them can be served. Where standard error is closed before the bind nothing is said
-/// on it: its descriptor may be a connection's later.
+/// on it of what fails: its descriptor may be a connection's later.
 pub fn listen<
     R: Net<Listener = TcpListener, Stream = TcpStream>
         + Threads
