@@ -45,7 +45,7 @@ fn next_at(patterns: &[Sought], from: usize) -> usize
 }
 
 /// The patterns, those with a term as subject first, and then, where there are such, one whose subject
-/// stands in a pattern before it: so few keys are read. Of equals the order that a client writes decides.
+/// stands in a pattern before it: so few keys are read.
 pub fn known_first<'a>(
     alloc: Global,
     patterns: &[Sought<'a>],

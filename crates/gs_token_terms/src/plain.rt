@@ -8,7 +8,7 @@ ghost use Rattle.gs_token_terms.specs.Plain.{are_bare as are_bare_of, is_plain_i
 
 use gs_automaton::{InIri, run_end};
 
-/// So many bytes a compiler tests at once. Of fewer, those of ASCII are tested by the automaton's table.
+/// So many bytes a compiler tests at once. Of fewer, the plain ones in front are tested by a table.
 const MANY: usize = 16;
 
 /// The text between two bytes of ASCII.
