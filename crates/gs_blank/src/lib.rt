@@ -3,6 +3,7 @@
 
 mod laws;
 mod numbering;
+mod spreads;
 
 pub use laws::numbered_by_first_appearance;
 pub use numbering::Numbering;

@@ -2,9 +2,10 @@
 ghost use Rattle.std.specs.Prelude.{◌≡◌, ◌+◌, OnOk, OnErr, IfOk, IfErr};
 ghost use Rattle.gs_blank.specs.Numbers.{no_numbers, known, label_number, one_more};
 
+use crate::spreads::Spread;
 use gs_model::Refusal;
 use std::alloc::Global;
-use std::collections::BTreeMap;
+use std::collections::HashMap;
 use std::marker::Model;
 
 /// The numbers of the blank nodes of one body, by first appearance, from 1. A contract sees the
@@ -12,7 +13,7 @@ use std::marker::Model;
 #[derive(Drop)]
 pub struct Numbering {
     alloc: Global,
-    labels: BTreeMap<String, u64>,
+    labels: HashMap<String, u64, Spread>,
     last: u64,
 }
 
@@ -31,18 +32,20 @@ impl Model for Numbering {
 }
 
 impl Numbering {
-    /// No node is numbered yet. Takes no memory.
-    pub fn new(alloc: Global) -> Self
+    /// No node is numbered yet. Labels are hashed under this seed, which shows in nothing but time. Where
+    /// strangers choose the labels, it is a random number that is kept from them: whoever knows it can make
+    /// labels collide, and each then takes longer than the one before. Takes no memory.
+    pub fn new(alloc: Global, seed: u64) -> Self
         ensures { result ≡ no_numbers }
     {
         Numbering {
             alloc,
-            labels: BTreeMap::new(alloc),
+            labels: HashMap::with_hasher(alloc, Spread::new(seed)),
             last: 0,
         }
     }
 
-    /// The number that a label has, if it has one. Logarithmic in the number of labels.
+    /// The number that a label has, if it has one.
     pub fn number(&self, label: &str) -> Option<u64>
         ensures { result ≡ known self.now label.now }
     {
@@ -57,7 +60,7 @@ impl Numbering {
     }
 
     /// The number of a label: the one that it has, or else the next. After `NoMemory` nothing has
-    /// changed. Logarithmic in the number of labels.
+    /// changed.
     pub fn of_label(&mut self, label: &str) -> Result<u64, Refusal>
         ensures value { IfOk result (λ k. k ≡ (label_number self.old label.now).0) }
         ensures ok { OnOk result (self.new ≡ (label_number self.old label.now).1) }

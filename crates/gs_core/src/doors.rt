@@ -1,4 +1,4 @@
-//! A store is a door to itself.
+//! A store is a door to itself. As a door it gives the seed 0, whichever its terms are spread by.
 use crate::stores::Store;
 use gs_door::Door;
 use gs_event::{Answer, Event};

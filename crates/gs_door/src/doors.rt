@@ -14,4 +14,10 @@ pub trait Door {
     fn event(&mut self, event: Event) -> Answer
         ensures gives { Gives self.old event result self.new }
         ensures kind { IsOfKind event result };
+
+    /// The seed under which readers hash labels of blank nodes: a number that strangers do not know, or 0
+    /// where there is none. It shows in nothing but time.
+    fn seed(&self) -> u64 {
+        0
+    }
 }

@@ -59,7 +59,7 @@ impl SeatText {
         ensures { IfOk result (λ begun. WasFed begun
             (Fed.InPart (first_context language opening.now) [] [] [])) }
     {
-        let reading = Reading::new(alloc, language, opening.request, opening.base())?;
+        let reading = Reading::new(alloc, language, opening.request, opening.base(), 0)?;
         Ok(SeatText::Fed(language, reading))
     }
 

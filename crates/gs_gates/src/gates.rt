@@ -50,4 +50,8 @@ impl<'a, G: Gate, D: Door> Door for GateDoor<'a, G, D> {
         self.gate.before(self.seat, &event);
         self.door.event(event)
     }
+
+    fn seed(&self) -> u64 {
+        self.door.seed()
+    }
 }

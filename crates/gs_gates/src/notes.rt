@@ -30,4 +30,8 @@ impl<'a, D: Door, R: Wait> Door for NoteDoor<'a, D, R> {
         }
         answer
     }
+
+    fn seed(&self) -> u64 {
+        self.door.seed()
+    }
 }

@@ -16,6 +16,8 @@ mod notes;
 #[cfg(test)]
 mod rests;
 #[cfg(test)]
+mod seeds;
+#[cfg(test)]
 mod steps;
 #[cfg(test)]
 mod sweeps;

@@ -59,8 +59,18 @@ impl NTriplesReader {
     ghost use Rattle.gs_ntread.specs.Readers.{LeadsToNTriples, IsStopped, refusal_after, FaultsAs, ConcludesAs, FaultyEnd, EndsWell, FaultsAfter, FaultsAtEnd, GivesParts, TakesEach, TakesByte, TakesChar, TakesFront, TakesRun, TakesParts, body_end, text_end};
     ghost use Rattle.gs_ntread.specs.Views.{cursor_state, ending_of};
 
-    /// A reader at the start of the body of the request of this number. Takes no memory.
+    /// A reader at the start of the body of the request of this number. Takes no memory. Its labels are hashed
+    /// under the seed 0, which everybody knows; `seeded` takes another.
     pub fn new(alloc: Global, request: u64) -> NTriplesReader
+        ensures fresh { ⟦<NTriplesReader as BodyReader>⟧.Leads result [] [] }
+        ensures unread { ⟦<NTriplesReader as BodyReader>⟧.is_closed result ≡ false }
+        ensures meaning_of { Means (⟦<NTriplesReader as BodyReader>⟧.meaning_of result) request }
+    {
+        NTriplesReader::seeded(alloc, request, 0)
+    }
+
+    /// The same, by a seed that spreads the labels of its blank nodes (`gs_blank::Numbering::new`).
+    pub fn seeded(alloc: Global, request: u64, seed: u64) -> NTriplesReader
         ensures fresh { ⟦<NTriplesReader as BodyReader>⟧.Leads result [] [] }
         ensures unread { ⟦<NTriplesReader as BodyReader>⟧.is_closed result ≡ false }
         ensures meaning_of { Means (⟦<NTriplesReader as BodyReader>⟧.meaning_of result) request }
@@ -71,7 +81,7 @@ impl NTriplesReader {
             decoder: Decoder::new(),
             read: 0,
             cursor: Cursor::new(alloc),
-            numbering: Numbering::new(alloc),
+            numbering: Numbering::new(alloc, seed),
             last: 0,
             is_closed: false,
         }

@@ -21,13 +21,14 @@ impl Parser {
     ghost use Rattle.gs_parse.specs.Views.{state_of};
     ghost use Rattle.gs_parse.specs.Steps.{transition_here, transition_within, transition_after, MovesBy, GivesTriples};
 
-    /// At the start of a document under an absolute base, in the request of this number.
-    pub fn new(alloc: Global, base: &str, request: u64) -> Result<Parser, AllocError>
+    /// At the start of a document under an absolute base, in the request of this number. The seed spreads
+    /// the labels of its blank nodes (`gs_blank::Numbering::new`).
+    pub fn new(alloc: Global, base: &str, request: u64, seed: u64) -> Result<Parser, AllocError>
         requires { is_absolute base.now ≡ true }
         ensures state { IfOk result (λ p. state_of p ≡ Between (start base.now request) no_numbers) }
         ensures last { IfOk result (λ p. p.last ≡ 0) }
     {
-        let scope = Scope::new(alloc, base, request)?;
+        let scope = Scope::new(alloc, base, request, seed)?;
         let allowed = Allowed {
             nodes: true,
             lone_lists: false,

@@ -90,7 +90,7 @@ fn read<L: Language>(
 
 /// A scope under the base `http://e/`, in request 7.
 fn scope(alloc: Global) -> Result<Scope, AllocError> {
-    Scope::new(alloc, "http://e/", 7)
+    Scope::new(alloc, "http://e/", 7, 0)
 }
 
 /// Reads a text in a scope of its own, and gives its fault.

@@ -82,7 +82,7 @@ fn parse(alloc: Global, parser: &mut Parser, tokens: &[Token]) -> Result<Parsed,
 /// What is given of a text under the base `http://e/`, in request 7.
 fn parse_text(alloc: Global, text: &[u8]) -> Result<Parsed, Refusal> {
     let tokens = tokens_of(alloc, text)?;
-    let made = Parser::new(alloc, "http://e/", 7);
+    let made = Parser::new(alloc, "http://e/", 7, 0);
     let Ok(mut parser) = made else {
         drop(tokens);
         return Err(Refusal::NoMemory);

@@ -136,7 +136,7 @@ fn with_last<P: Drop>(passes: Vec<P>, last: P) -> Result<Vec<P>, AllocError>
     Ok(passes)
 }
 
-/// A number that strangers do not know, by which the terms of the store are spread; 0 where the system
+/// A number that strangers do not know, by which terms, and labels of blank nodes, are spread; 0 where the system
 /// has none to give.
 fn seed_from<R: RandomSource>(rt: &R) -> u64 {
     let mut bytes = [0u8; 8];

@@ -32,11 +32,11 @@ fn language_of(media: Media) -> Language
 }
 
 /// The reading of an upload's body is begun.
-fn receive(setup: &Setup, asked: &Asked, request: u64) -> Work
+fn receive(setup: &Setup, asked: &Asked, request: u64, seed: u64) -> Work
     ensures { ReceivesBody setup.now.site asked.now request result }
 {
     let base = setup.site.text_base(&asked.graph);
-    match Reading::new(setup.alloc, language_of(asked.body), request, base) {
+    match Reading::new(setup.alloc, language_of(asked.body), request, base, seed) {
         Ok(reading) => Work::Uploading(reading, transfer_of(asked)),
         Err(_) => Work::Failing(Want::Memory),
     }
@@ -56,7 +56,7 @@ fn open_upload<D: Door>(
 {
     match setup.act(Action::Open(kind, since), door) {
         Answer::Opened(request) => {
-            let work = receive(setup, &asked, request);
+            let work = receive(setup, &asked, request, door.seed());
             Next {
                 phase: Phase::Serving(asked, work),
                 said: greeting,

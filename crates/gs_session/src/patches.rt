@@ -20,7 +20,7 @@ use gs_door::Door;
 use gs_event::{Action, Op};
 use gs_model::Refusal;
 use gs_transfer::{Part, Transfer};
-use gs_update::read_update;
+use gs_update::read_update_seeded;
 use gs_verdict::Asked;
 
 /// So many bytes of data are kept.
@@ -63,7 +63,7 @@ fn finish<D: Door>(setup: &Setup, asked: Asked, request: u64, body: &[u8], door:
         → DoesStep D.Gives setup.now e (Serving asked (Patching request v t)) b door.old result b door.new }
 {
     let base = setup.site.text_base(&asked.graph);
-    match read_update(setup.alloc, request, base, body) {
+    match read_update_seeded(setup.alloc, request, base, door.seed(), body) {
         Ok(operations) => Step::Made(commit(setup, asked, operations, door)),
         Err(refusal) => match refusal {
             Refusal::NoMemory => Step::Silent(silently(

@@ -56,4 +56,8 @@ impl<'a, C: Ledger, T: Ledger, B: Room, R: Wait> Door for PassDoor<'a, C, T, B, 
     fn event(&mut self, event: Event) -> Answer {
         self.store.event(self.rt, &mut self.pass, event)
     }
+
+    fn seed(&self) -> u64 {
+        self.store.seed
+    }
 }

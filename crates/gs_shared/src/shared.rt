@@ -50,10 +50,10 @@ pub struct Shared<C: CountedLedger, T: CountedLedger, B: Room> {
 
 impl<C: CountedLedger, T: CountedLedger, B: Room> Shared<C, T, B> {
     /// A new store with this base, for so many seats, 1 to 512, of which no pass is handed out yet.
-    /// `gs_core::is_base` tests a base. The seed spreads the terms, and shows in nothing but time: where
-    /// strangers choose the terms, it is a random number that is kept from them. The cell is one of
-    /// `stamp_cell`, with its token, and each blank has more parts than there are seats. The room names
-    /// that cell, and how this store begins.
+    /// `gs_core::is_base` tests a base. The seed spreads terms and, by doors, labels of blank nodes, and shows
+    /// in nothing but time: where strangers choose these, it is a random number that is kept from them. The
+    /// cell is one of `stamp_cell`, with its token, and each blank has more parts than there are seats. The
+    /// room names that cell, and how this store begins.
     ///
     /// # Errors
     ///
@@ -96,6 +96,7 @@ impl<C: CountedLedger, T: CountedLedger, B: Room> Shared<C, T, B> {
             cell,
             lock: Mutex::new(locked),
             alloc,
+            seed,
         };
         Ok(Shared {
             store,

@@ -13,13 +13,14 @@ use std::alloc::Global;
 use std::sync::ledger::Ledger;
 use std::sync::{Mutex, Wait};
 
-/// One Mutex over a store with its page, beside the cell of its passes. Threads share it by
-/// reference.
+/// One Mutex over a store with its page, beside the cell of its passes and the store's seed. Threads share it
+/// by reference.
 #[derive(Drop)]
 pub struct SharedStore<C: Ledger, T: Ledger, B: Room> {
     pub(crate) cell: StampCell,
     pub(crate) lock: Mutex<Locked<C, T, B>>,
     pub(crate) alloc: Global,
+    pub(crate) seed: u64,
     ghost table: { cell.table.shared.table_id ≡ B.table },
 }
 

@@ -1,19 +1,23 @@
-//! A store has the base and the number of seats that it was made with.
+//! A store has the base, the seed and the number of seats that it was made with.
 ghost use Rattle.std.specs.Prelude.{◌≡◌, ◌<◌, [], codes};
 ghost use Rattle.crossbeam_utils.specs.Seq.{cell_view};
 ghost use Rattle.gs_core.specs.Settings.{start_at};
 ghost use Rattle.gs_pass.specs.Stamps.{keeper as keeper_of};
 
+use gs_door::Door;
 use gs_event::{Action, Answer, Event, UploadKind};
-use gs_shared::{CountedLedger, Room, Shared, StampCell, Token, stamp_cell};
+use gs_shared::{CountedLedger, PassDoor, Room, Shared, StampCell, Token, stamp_cell};
 use std::alloc::Global;
 use std::marker::Brand;
 use std::sync::Wait;
 use std::sync::ledger::Blank;
 use std::test::Fail;
 
+/// The seed of the store.
+const SEED: u64 = 7;
+
 /// What the one seat of a store is answered that creates a graph, once it was seen that there is no
-/// pass for a second.
+/// pass for a second, and that its door has the store's seed.
 fn create<C: CountedLedger, T: CountedLedger, B: Room, R: Wait>(
     rt: &R,
     shared: &mut Shared<C, T, B>,
@@ -27,7 +31,13 @@ fn create<C: CountedLedger, T: CountedLedger, B: Room, R: Wait>(
     let mut passes = shared.passes(1).ok()?;
     let pass = passes.pop();
     drop(passes);
-    let mut pass = pass?;
+    let door = PassDoor::new(rt, shared.store(), pass?);
+    let is_seeded = door.seed() == SEED;
+    let mut pass = door.into_pass();
+    if !is_seeded {
+        drop(pass);
+        return None;
+    }
     let opens = Event::Seat(pass.seat(), Action::Open(UploadKind::New, None));
     drop(shared.event(rt, &mut pass, opens));
     let commits = Event::Seat(pass.seat(), Action::Commit);
@@ -61,7 +71,7 @@ fn run<
         alloc,
         1,
         "http://h:1",
-        0,
+        SEED,
         cell,
         keeper,
         calls,
@@ -88,8 +98,8 @@ fn is_named(answer: &Answer, wanted: &[u8]) -> bool {
 }
 
 #[test]
-fn a_store_has_its_base_and_its_seats(rt: HostRuntime) -> Result<(), Fail> {
-    let answer = created(&rt, rt.alloc()).expect(&rt, "memory, and one seat");
+fn a_store_has_its_base_its_seed_and_its_seats(rt: HostRuntime) -> Result<(), Fail> {
+    let answer = created(&rt, rt.alloc()).expect(&rt, "memory, one seat, and the seed");
     let is_right = is_named(&answer, b"http://h:1/graphs/n1-0");
     drop(answer);
     assert!(rt; is_right);

@@ -24,8 +24,8 @@ impl Scope {
     ghost use Rattle.gs_triple_values.specs.Contexts.{ChangesContext};
 
     /// Under an absolute base, with no prefix and no blank node, in the request of this number.
-    /// `gs_iri::is_absolute` tests a base.
-    pub fn new(alloc: Global, base: &str, request: u64) -> Result<Scope, AllocError>
+    /// `gs_iri::is_absolute` tests a base. The seed spreads the labels (`gs_blank::Numbering::new`).
+    pub fn new(alloc: Global, base: &str, request: u64, seed: u64) -> Result<Scope, AllocError>
         requires { is_absolute base.now ≡ true }
         ensures context { IfOk result (λ s. scope_context s ≡ without_prefixes of_terms base.now request) }
         ensures numbers { IfOk result (λ s. scope_numbers s ≡ no_numbers) }
@@ -33,7 +33,7 @@ impl Scope {
         Ok(Scope {
             alloc,
             context: Context::new(alloc, base, request)?,
-            numbering: Numbering::new(alloc),
+            numbering: Numbering::new(alloc, seed),
             budget: Budget::new(),
         })
     }

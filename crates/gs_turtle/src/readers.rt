@@ -30,8 +30,25 @@ impl TurtleReader {
     ghost use Rattle.gs_turtle.specs.Documents.{meaning_by};
     ghost use Rattle.gs_turtle.specs.Readers.{IsLedBy, meaning_for, KeepsReader, Reads, IsRefused, IsRefusedAtEnd};
 
-    /// A reader at the start of the body of the request of this number, under an absolute base.
+    /// A reader at the start of the body of the request of this number, under an absolute base. Its labels are
+    /// hashed under the seed 0, which everybody knows; `seeded` takes another.
     pub fn new(alloc: Global, request: u64, base: &str) -> Result<TurtleReader, AllocError>
+        requires { is_absolute base.now ≡ true }
+        ensures fresh { IfOk result (λ r. ⟦<TurtleReader as BodyReader>⟧.Leads r [] []) }
+        ensures unread { IfOk result (λ r. ⟦<TurtleReader as BodyReader>⟧.is_closed r ≡ false) }
+        ensures meaning_of { IfOk result (λ r. (x : List ℕ)
+            → ⟦<TurtleReader as BodyReader>⟧.meaning_of r x ≡ meaning_by base.now request x) }
+    {
+        TurtleReader::seeded(alloc, request, base, 0)
+    }
+
+    /// The same, by a seed that spreads the labels of its blank nodes (`gs_blank::Numbering::new`).
+    pub fn seeded(
+        alloc: Global,
+        request: u64,
+        base: &str,
+        seed: u64,
+    ) -> Result<TurtleReader, AllocError>
         requires { is_absolute base.now ≡ true }
         ensures fresh { IfOk result (λ r. ⟦<TurtleReader as BodyReader>⟧.Leads r [] []) }
         ensures unread { IfOk result (λ r. ⟦<TurtleReader as BodyReader>⟧.is_closed r ≡ false) }
@@ -42,7 +59,7 @@ impl TurtleReader {
             request,
             base: String::from_str(alloc, base)?,
             lexer: PieceLexer::new(alloc, false),
-            parser: Parser::new(alloc, base, request)?,
+            parser: Parser::new(alloc, base, request, seed)?,
             is_closed: false,
         })
     }

@@ -5,4 +5,4 @@ mod parser;
 mod readers;
 mod tokens;
 
-pub use readers::read_update;
+pub use readers::{read_update, read_update_seeded};

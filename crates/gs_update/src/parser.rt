@@ -48,17 +48,18 @@ impl UpdateParser {
     ghost use Rattle.gs_update.specs.Steps.{Starts, Moves, EndsUpdateText};
 
     /// At the start of an update of so many bytes under an absolute base, in the request of this
-    /// number.
+    /// number. The seed spreads the labels of its blank nodes (`gs_blank::Numbering::new`).
     pub fn new(
         alloc: Global,
         base: &str,
         request: u64,
+        seed: u64,
         bytes: u64,
     ) -> Result<UpdateParser, AllocError>
         requires { is_absolute base.now ≡ true }
         ensures { IfOk result (λ p. Starts p (Between (first_scope base.now request) no_numbers)) }
     {
-        let mut scope = Scope::new(alloc, base, request)?;
+        let mut scope = Scope::new(alloc, base, request, seed)?;
         scope.read_up_to(bytes);
         Ok(UpdateParser {
             alloc,

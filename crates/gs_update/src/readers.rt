@@ -31,7 +31,9 @@ fn take_text(parser: &mut UpdateParser, text: &[u8]) -> Result<(), Refusal>
 
 /// The operations of the text of an update, under an absolute base, in the request of this number.
 /// `gs_iri::is_absolute` tests a base. Linear in the length of the text, but that each relative
-/// reference also reads the base in force, and each prefixed name the IRI of its prefix.
+/// reference also reads the base in force, and each prefixed name the IRI of its prefix. Labels are hashed
+/// under the seed 0, which everybody knows, and those that are made to collide take longer;
+/// `read_update_seeded` takes another seed.
 ///
 /// # Errors
 ///
@@ -46,7 +48,21 @@ pub fn read_update(alloc: Global, request: u64, base: &str, text: &[u8]) -> Resu
     requires { is_absolute base.now ≡ true }
     ensures { Answers result (request_by base.now request text.now) }
 {
-    let mut parser = UpdateParser::new(alloc, base, request, text.len() as u64)?;
+    read_update_seeded(alloc, request, base, 0, text)
+}
+
+/// The same, by a seed that spreads the labels of its blank nodes (`gs_blank::Numbering::new`).
+pub fn read_update_seeded(
+    alloc: Global,
+    request: u64,
+    base: &str,
+    seed: u64,
+    text: &[u8],
+) -> Result<Vec<Op>, Refusal>
+    requires { is_absolute base.now ≡ true }
+    ensures { Answers result (request_by base.now request text.now) }
+{
+    let mut parser = UpdateParser::new(alloc, base, request, seed, text.len() as u64)?;
     match take_text(&mut parser, text) {
         Ok(()) => Ok(parser.into_operations()),
         Err(refusal) => {

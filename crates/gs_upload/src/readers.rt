@@ -22,12 +22,13 @@ pub enum TextReader {
 
 impl TextReader {
     /// A reader at the start of the body of the request of this number. `gs_iri::is_absolute` tests
-    /// a base.
+    /// a base. The seed spreads the labels of blank nodes (`gs_blank::Numbering::new`).
     pub fn new(
         alloc: Global,
         language: Language,
         request: u64,
         base: &str,
+        seed: u64,
     ) -> Result<TextReader, AllocError>
         requires { is_absolute base.now ≡ true }
         ensures fresh { IfOk result (λ r. ⟦<TextReader as BodyReader>⟧.Leads r [] []) }
@@ -36,8 +37,12 @@ impl TextReader {
             → ⟦<TextReader as BodyReader>⟧.meaning_of r x ≡ meaning_in language base.now request x) }
     {
         match language {
-            Language::NTriples => Ok(TextReader::NTriples(NTriplesReader::new(alloc, request))),
-            Language::Turtle => Ok(TextReader::Turtle(TurtleReader::new(alloc, request, base)?)),
+            Language::NTriples => Ok(TextReader::NTriples(NTriplesReader::seeded(
+                alloc, request, seed,
+            ))),
+            Language::Turtle => Ok(TextReader::Turtle(TurtleReader::seeded(
+                alloc, request, base, seed,
+            )?)),
         }
     }
 }

@@ -142,18 +142,20 @@ impl Reading<TextReader> {
     ghost use Rattle.gs_upload.specs.Readers.{IsFedText};
 
     /// The reading of the text of the request of this number, in a language and under a first base.
-    /// `gs_iri::is_absolute` tests a base.
+    /// `gs_iri::is_absolute` tests a base. The seed spreads the labels of blank nodes
+    /// (`gs_blank::Numbering::new`).
     pub fn new(
         alloc: Global,
         language: Language,
         request: u64,
         base: &str,
+        seed: u64,
     ) -> Result<Reading<TextReader>, AllocError>
         requires { is_absolute base.now ≡ true }
         ensures fed { IfOk result (λ k. IsFedText k (meaning_in language base.now request) [] []) }
         ensures no_fault { IfOk result (λ k. k.fault ≡ None) }
     {
-        let reader = TextReader::new(alloc, language, request, base)?;
+        let reader = TextReader::new(alloc, language, request, base, seed)?;
         Ok(Reading::of(reader))
     }
 }

@@ -2,7 +2,7 @@ use Rattle.std.proofs.Common.{sym, subst}
 use Rattle.gs_update_text.specs.Texts.{request_by}
 use Rattle.gs_update.specs.Answers.{AreOperationsOf}
 use Rattle.gs_update.proofs.TextLemmas.{refused_whole, read_whole}
-use Rattle.gs_update.proofs.readers.read_update.Goals as goal
+use Rattle.gs_update.proofs.readers.read_update_seeded.Goals as goal
 
 pub returns-in-Err : goal.returns-in-Err
 returns-in-Err c =

@@ -6,7 +6,7 @@ use Rattle.gs_blank.specs.Numbers.{Numbers}
 use Rattle.gs_ntread.specs.States.{LineState, line_start}
 use Rattle.gs_ntread.specs.Reader.{Led, ntriples, nothing_read}
 use Rattle.gs_ntread.specs.Views.{cursor_state}
-use Rattle.gs_ntread.proofs.reader.NTriplesReader.new.Goals as goal
+use Rattle.gs_ntread.proofs.reader.NTriplesReader.seeded.Goals as goal
 
 pub returns-clause-fresh : goal.returns-clause-fresh
 returns-clause-fresh c =

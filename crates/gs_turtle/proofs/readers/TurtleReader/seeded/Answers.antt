@@ -7,7 +7,7 @@ use Rattle.gs_document.specs.Documents.{start}
 use Rattle.gs_document.specs.States.{DocumentState, Between}
 use Rattle.gs_document.specs.Machine.{turtle}
 use Rattle.gs_parse.specs.Views.{state_of}
-use Rattle.gs_turtle.proofs.readers.TurtleReader.new.Goals as goal
+use Rattle.gs_turtle.proofs.readers.TurtleReader.seeded.Goals as goal
 
 pub returns-clause-fresh : goal.returns-clause-fresh
 returns-clause-fresh c =
