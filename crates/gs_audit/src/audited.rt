@@ -39,7 +39,7 @@ impl<const ENTRIES: usize, const TRIPLES: usize> Audited<ENTRIES, TRIPLES> {
     ghost use Rattle.gs_audit.specs.Staged.{staged_after};
     ghost use Rattle.gs_audit.specs.Forms.{IsFormOf, counts};
     ghost use Rattle.gs_audit.specs.Decisions.{page_by, ReplaysTo};
-    ghost use Rattle.gs_audit.specs.Audits.{staged_of, decided_on};
+    ghost use Rattle.gs_audit.specs.Audits.{audited_store, audited_page, staged_of, decided_on};
 
     /// A new store with this base, for so many seats, 1 to 512, and page 0, without entries.
     /// `gs_core::is_base` tests a base.
@@ -52,11 +52,11 @@ impl<const ENTRIES: usize, const TRIPLES: usize> Audited<ENTRIES, TRIPLES> {
         requires some { 1 ≤ seats }
         requires few { seats ≤ max_seats }
         requires base { is_base base.now ≡ true }
-        ensures view { IfOk result (λ a. ShowsStart (start_at seats base.now 0 0) a.store) }
-        ensures pinned { IfOk result (λ a. HasStartPins (start_at seats base.now 0 0) a.store) }
-        ensures waste { IfOk result (λ a. a.store.waste ≡ []) }
-        ensures births { IfOk result (λ a. a.store.births ≡ no_births seats) }
-        ensures page { IfOk result (λ a. page_of a.chronicle ≡ fresh_page) }
+        ensures view { IfOk result (λ a. ShowsStart (start_at seats base.now 0 0) (audited_store a)) }
+        ensures pinned { IfOk result (λ a. HasStartPins (start_at seats base.now 0 0) (audited_store a)) }
+        ensures waste { IfOk result (λ a. (audited_store a).waste ≡ []) }
+        ensures births { IfOk result (λ a. (audited_store a).births ≡ no_births seats) }
+        ensures page { IfOk result (λ a. page_of (audited_page a) ≡ fresh_page) }
         ensures staged { IfOk result (λ a. staged_of a ≡ replicate seats 0) }
         ensures refused { IfErr result (λ refusal. refusal ≡ Refusal.NoMemory) }
     {
@@ -78,11 +78,11 @@ impl<const ENTRIES: usize, const TRIPLES: usize> Audited<ENTRIES, TRIPLES> {
         requires some { 1 ≤ seats }
         requires few { seats ≤ max_seats }
         requires base { is_base base.now ≡ true }
-        ensures view { IfOk result (λ a. ShowsStart (start_at seats base.now 0 0) a.store) }
-        ensures pinned { IfOk result (λ a. HasStartPins (start_at seats base.now 0 0) a.store) }
-        ensures waste { IfOk result (λ a. a.store.waste ≡ []) }
-        ensures births { IfOk result (λ a. a.store.births ≡ no_births seats) }
-        ensures page { IfOk result (λ a. page_of a.chronicle ≡ fresh_page) }
+        ensures view { IfOk result (λ a. ShowsStart (start_at seats base.now 0 0) (audited_store a)) }
+        ensures pinned { IfOk result (λ a. HasStartPins (start_at seats base.now 0 0) (audited_store a)) }
+        ensures waste { IfOk result (λ a. (audited_store a).waste ≡ []) }
+        ensures births { IfOk result (λ a. (audited_store a).births ≡ no_births seats) }
+        ensures page { IfOk result (λ a. page_of (audited_page a) ≡ fresh_page) }
         ensures staged { IfOk result (λ a. staged_of a ≡ replicate seats 0) }
         ensures refused { IfErr result (λ refusal. refusal ≡ Refusal.NoMemory) }
     {
@@ -102,9 +102,9 @@ impl<const ENTRIES: usize, const TRIPLES: usize> Audited<ENTRIES, TRIPLES> {
     /// Takes one event: one step of the store. What the event decided stands in the page then. It makes all
     /// its own room first, and where that is refused the answer is want of memory, and nothing changed.
     pub fn event(&mut self, mut event: Event) -> Answer
-        ensures steps { Steps self.old.store event result self.new.store }
-        ensures page { page_of self.new.chronicle
-            ≡ page_by ENTRIES TRIPLES (page_of self.old.chronicle) (decided_on self.old event result) }
+        ensures steps { Steps (audited_store self.old) event result (audited_store self.new) }
+        ensures page { page_of (audited_page self.new)
+            ≡ page_by ENTRIES TRIPLES (page_of (audited_page self.old)) (decided_on self.old event result) }
         ensures staged { staged_of self.new ≡ staged_after (staged_of self.old) event result }
     {
         let count = count_of(&event);
@@ -118,9 +118,10 @@ impl<const ENTRIES: usize, const TRIPLES: usize> Audited<ENTRIES, TRIPLES> {
     pub fn event_with(&mut self, event: &mut Event, form: Option<Form>, count: usize) -> Answer
         requires form { IfSome form (IsFormOf event.old) }
         requires count { count ≡ counts event.old }
-        ensures steps { Steps self.old.store event.old result self.new.store }
-        ensures page { page_of self.new.chronicle
-            ≡ page_by ENTRIES TRIPLES (page_of self.old.chronicle) (decided_on self.old event.old result) }
+        ensures steps { Steps (audited_store self.old) event.old result (audited_store self.new) }
+        ensures page { page_of (audited_page self.new)
+            ≡ page_by ENTRIES TRIPLES (page_of (audited_page self.old))
+            (decided_on self.old event.old result) }
         ensures staged { staged_of self.new ≡ staged_after (staged_of self.old) event.old result }
     {
         let Audited {
@@ -134,8 +135,8 @@ impl<const ENTRIES: usize, const TRIPLES: usize> Audited<ENTRIES, TRIPLES> {
 
     /// The page. It replays to the dataset, the commit number and the last writes that the store shows.
     pub fn page(&self) -> &Page<ENTRIES, TRIPLES>
-        ensures value { result.now ≡ self.now.chronicle }
-        ensures replays { ∥ ReplaysTo self.now.store.view (page_of result.now) ∥₁ }
+        ensures value { result.now ≡ audited_page self.now }
+        ensures replays { ∥ ReplaysTo (audited_store self.now).view (page_of result.now) ∥₁ }
     {
         &self.chronicle
     }

@@ -6,6 +6,7 @@ pub mod KeptLists
 pub mod Uploads
 pub mod OpenUploads
 pub mod KeptOps
+pub mod Patches
 pub mod OpenPatches
 pub mod Kinds
 pub mod Requests

@@ -1,7 +1,7 @@
 //! Entries of a page.
 ghost use Rattle.std.specs.Prelude.{◌≡◌};
 ghost use Rattle.gs_chronicle.specs.Requests.{call_of};
-ghost use Rattle.gs_chronicle.specs.Rows.{row_of};
+ghost use Rattle.gs_chronicle.specs.Rows.{row_of, entry_request};
 
 use crate::requests::Request;
 use gs_small_triples::FormBlocks;
@@ -35,28 +35,28 @@ impl Entry {
 
     /// How many entries stand before it in its page.
     pub fn number(&self) -> u64
-        ensures { result ≡ self.now.number }
+        ensures { result ≡ (row_of self.now).number }
     {
         self.number
     }
 
     /// The seat that made the call.
     pub fn seat(&self) -> u16
-        ensures { result ≡ self.now.seat }
+        ensures { result ≡ (row_of self.now).call.seat }
     {
         self.seat
     }
 
     /// What the store was asked.
     pub fn request(&self) -> &Request
-        ensures { result.now ≡ self.now.request }
+        ensures { result.now ≡ entry_request self.now }
     {
         &self.request
     }
 
     /// The HTTP status that the store answered.
     pub fn status(&self) -> u16
-        ensures { result ≡ self.now.status }
+        ensures { result ≡ (row_of self.now).call.status }
     {
         self.status
     }

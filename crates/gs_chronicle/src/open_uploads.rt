@@ -45,15 +45,15 @@ impl OpenUpload {
     ghost use Rattle.gs_small_triples.specs.Small.{small_triples};
     ghost use Rattle.gs_packed_triples.specs.Triples.{HasRoomFor};
     ghost use Rattle.gs_chronicle.specs.Sizes.{triples_size};
-    ghost use Rattle.gs_chronicle.specs.Uploads.{staged_triples};
-    ghost use Rattle.gs_chronicle.specs.OpenUploads.{triples_so_far, graph_so_far, keeps_form, HasPlace, HasRoomToStage};
+    ghost use Rattle.gs_chronicle.specs.Uploads.{upload_kind, upload_request, upload_since, staged_triples};
+    ghost use Rattle.gs_chronicle.specs.OpenUploads.{open_upload_kind, open_upload_request, open_upload_since, triples_so_far, graph_so_far, count_so_far, lists_kept_apart, next_form, keeps_form, HasPlace, HasRoomToStage};
 
     /// An upload of this kind, this request number and this condition, to which nothing was staged yet.
     /// Takes no memory.
     pub fn new(alloc: Global, kind: UploadKind, request: u64, since: Option<u64>) -> OpenUpload
-        ensures kind { result.kind ≡ kind }
-        ensures request { result.request ≡ request }
-        ensures since { result.since ≡ since }
+        ensures kind { open_upload_kind result ≡ kind }
+        ensures request { open_upload_request result ≡ request }
+        ensures since { open_upload_since result ≡ since }
         ensures triples { triples_so_far result ≡ [] }
         ensures graph { graph_so_far result ≡ empty_graph }
     {
@@ -113,14 +113,15 @@ impl OpenUpload {
     ) -> bool
         requires form { IfSome small (λ s. small_triples s ≡ list.now.items) }
         requires count { count ≡ triples_size list.now.items }
-        ensures kind { self.new.kind ≡ self.old.kind }
-        ensures request { self.new.request ≡ self.old.request }
-        ensures since { self.new.since ≡ self.old.since }
+        ensures kind { open_upload_kind self.new ≡ open_upload_kind self.old }
+        ensures request { open_upload_request self.new ≡ open_upload_request self.old }
+        ensures since { open_upload_since self.new ≡ open_upload_since self.old }
         ensures triples { triples_so_far self.new ≡ triples_so_far self.old }
         ensures room { result ≡ true → HasRoomToStage self.new list.now.items }
         ensures next { result ≡ true →
-            self.new.next ≡
-            if keeps_form self.old.count (vec_len self.old.lists) (length list.now.items) then small else None }
+            next_form self.new ≡
+            if keeps_form (count_so_far self.old) (lists_kept_apart self.old) (length list.now.items)
+            then small else None }
     {
         if !self.make_place() {
             return false;
@@ -169,9 +170,9 @@ impl OpenUpload {
     #[tactic(auto, using(crate::proofs::UploadLemmas::more_staged))]
     pub fn stage(&mut self, list: &TripleList)
         requires { HasRoomToStage self.old list.now.items }
-        ensures kind { self.new.kind ≡ self.old.kind }
-        ensures request { self.new.request ≡ self.old.request }
-        ensures since { self.new.since ≡ self.old.since }
+        ensures kind { open_upload_kind self.new ≡ open_upload_kind self.old }
+        ensures request { open_upload_request self.new ≡ open_upload_request self.old }
+        ensures since { open_upload_since self.new ≡ open_upload_since self.old }
         ensures triples { triples_so_far self.new ≡ triples_so_far self.old ++ list.now.items }
         ensures graph { graph_so_far self.new ≡ with_triples (graph_so_far self.old) list.now.items }
     {
@@ -184,9 +185,9 @@ impl OpenUpload {
     /// The upload as it is stored, after which no more will be staged. Takes no memory, but for smaller
     /// blocks.
     pub fn closed(self) -> Upload
-        ensures kind { result.kind ≡ self.kind }
-        ensures request { result.request ≡ self.request }
-        ensures since { result.since ≡ self.since }
+        ensures kind { upload_kind result ≡ open_upload_kind self }
+        ensures request { upload_request result ≡ open_upload_request self }
+        ensures since { upload_since result ≡ open_upload_since self }
         ensures triples { staged_triples result ≡ triples_so_far self }
     {
         let OpenUpload {

@@ -22,31 +22,32 @@ impl Patch {
     ghost use Rattle.std.specs.Prelude.{◌≡◌};
     ghost use Rattle.gs_chronicle.specs.KeptOps.{ops_kept};
     ghost use Rattle.gs_chronicle.specs.Sizes.{ops_size};
+    ghost use Rattle.gs_chronicle.specs.Patches.{patch_target, patch_since, patch_ops};
 
     /// The graph that is patched.
     pub fn target(&self) -> &Target
-        ensures { result.now ≡ self.now.target }
+        ensures { result.now ≡ patch_target self.now }
     {
         &self.target
     }
 
     /// The number of the commit since which its target must not have been written, if there is one.
     pub fn since(&self) -> Option<u64>
-        ensures { result ≡ self.now.since }
+        ensures { result ≡ patch_since self.now }
     {
         self.since
     }
 
     /// Its operations, in their order.
     pub fn ops(&self) -> &KeptOps
-        ensures { result.now ≡ self.now.ops }
+        ensures { result.now ≡ patch_ops self.now }
     {
         &self.ops
     }
 
     /// As how many triples its operations count.
     pub fn count(&self) -> usize
-        ensures { result ≡ ops_size (ops_kept self.now.ops) }
+        ensures { result ≡ ops_size (ops_kept (patch_ops self.now)) }
     {
         self.count
     }
@@ -82,13 +83,14 @@ pub struct OpenPatch {
 impl OpenPatch {
     ghost use Rattle.std.specs.Prelude.{◌≡◌, None};
     ghost use Rattle.gs_chronicle.specs.KeptOps.{ops_kept};
-    ghost use Rattle.gs_chronicle.specs.OpenPatches.{HasFormsOf};
+    ghost use Rattle.gs_chronicle.specs.Patches.{patch_target, patch_since, patch_ops};
+    ghost use Rattle.gs_chronicle.specs.OpenPatches.{open_patch_target, open_patch_request, open_patch_since, open_patch_forms, open_patch_count, HasFormsOf};
 
     /// A patch of this graph, under this request number and on this condition.
     pub fn new(target: Target, request: u64, since: Option<u64>) -> OpenPatch
-        ensures target { result.target ≡ target }
-        ensures request { result.request ≡ request }
-        ensures since { result.since ≡ since }
+        ensures target { open_patch_target result ≡ target }
+        ensures request { open_patch_request result ≡ request }
+        ensures since { open_patch_since result ≡ since }
     {
         OpenPatch {
             target,
@@ -102,11 +104,11 @@ impl OpenPatch {
     /// Notes the forms of the operations that are committed next, if they could be made, and as how many
     /// triples they count.
     pub fn note_forms(&mut self, forms: Option<Vec<KeptOp>>, count: usize)
-        ensures target { self.new.target ≡ self.old.target }
-        ensures request { self.new.request ≡ self.old.request }
-        ensures since { self.new.since ≡ self.old.since }
-        ensures forms { self.new.forms ≡ forms }
-        ensures count { self.new.count ≡ count }
+        ensures target { open_patch_target self.new ≡ open_patch_target self.old }
+        ensures request { open_patch_request self.new ≡ open_patch_request self.old }
+        ensures since { open_patch_since self.new ≡ open_patch_since self.old }
+        ensures forms { open_patch_forms self.new ≡ forms }
+        ensures count { open_patch_count self.new ≡ count }
     {
         self.forms = forms;
         self.count = count;
@@ -116,9 +118,9 @@ impl OpenPatch {
     /// with the operations.
     pub fn committed(self, ops: &mut Vec<Op>) -> Patch
         requires { HasFormsOf self ops.old.items }
-        ensures target { result.target ≡ self.target }
-        ensures since { result.since ≡ self.since }
-        ensures ops { ops_kept result.ops ≡ ops.old.items }
+        ensures target { patch_target result ≡ open_patch_target self }
+        ensures since { patch_since result ≡ open_patch_since self }
+        ensures ops { ops_kept (patch_ops result) ≡ ops.old.items }
     {
         let OpenPatch {
             target,

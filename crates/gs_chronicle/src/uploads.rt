@@ -36,7 +36,7 @@ impl Upload {
     ghost use Rattle.std.specs.Prelude.{◌≡◌, IfOk};
     ghost use Rattle.gs_chronicle.specs.KeptLists.{all_triples};
     ghost use Rattle.gs_chronicle.specs.Sizes.{triples_size};
-    ghost use Rattle.gs_chronicle.specs.Uploads.{staged_triples};
+    ghost use Rattle.gs_chronicle.specs.Uploads.{upload_kind, upload_request, upload_since, staged_triples};
 
     /// An upload of these lists, which count as so many triples.
     pub(crate) fn new(
@@ -86,21 +86,21 @@ impl Upload {
 
     /// What it did to its target.
     pub fn kind(&self) -> &UploadKind
-        ensures { result.now ≡ self.now.kind }
+        ensures { result.now ≡ upload_kind self.now }
     {
         &self.kind
     }
 
     /// Its request number.
     pub fn request(&self) -> u64
-        ensures { result ≡ self.now.request }
+        ensures { result ≡ upload_request self.now }
     {
         self.request
     }
 
     /// The number of the commit since which its target must not have been written, if there is one.
     pub fn since(&self) -> Option<u64>
-        ensures { result ≡ self.now.since }
+        ensures { result ≡ upload_since self.now }
     {
         self.since
     }

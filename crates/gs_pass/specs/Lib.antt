@@ -1,4 +1,5 @@
--- Read in this order: limits, kinds as numbers, what names no cell, what tokens know of the stamps, what a pass shows, and what stands behind it.
+-- Read in this order: limits, kinds as numbers, what names no cell, what tokens know of the stamps, what a pass shows, what stands
+-- behind it, and what contracts see of a pass and of a register.
 pub mod Limits
 pub mod Kinds
 pub mod Rooms
@@ -6,3 +7,5 @@ pub mod Stamps
 pub mod Tallies
 pub mod Claims
 pub mod Backing
+pub mod Passes
+pub mod Registers

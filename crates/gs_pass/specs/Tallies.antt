@@ -18,6 +18,10 @@ pub record Tally : Type 0 where
   pub calls : ℕ
   pub triples : ℕ
 
+-- the seat of the pass that was told this
+abbrev pub seat_in : Record → ℕ
+seat_in r = r.seat
+
 -- the tally of what a pass was told
 abbrev pub tally_of : Record → Tally
 tally_of r = record { receipts = r.receipts.items; calls = r.calls; triples = r.triples }

@@ -35,23 +35,26 @@ pub struct Pass<C: Ledger, T: Ledger, B: Room> {
 }
 
 impl<C: Ledger, T: Ledger, B: Room> Pass<C, T, B> {
+    ghost use Rattle.gs_pass.specs.Passes.{record_of};
+    ghost use Rattle.gs_pass.specs.Tallies.{seat_in, tally_of};
+
     /// The seat.
     pub fn seat(&self) -> u16
-        ensures value { result ≡ self.now.record.seat }
+        ensures value { result ≡ seat_in (record_of self.now) }
     {
         self.record.seat
     }
 
     /// Receipts of the first 4,096 deciding calls that were not refused, the oldest first.
     pub fn receipts(&self) -> &[Receipt]
-        ensures value { result.now ≡ self.now.record.receipts.items }
+        ensures value { result.now ≡ (tally_of (record_of self.now)).receipts }
     {
         self.record.receipts.as_slice()
     }
 
     /// How many deciding calls were not refused. The count stops at 2^64 - 1.
     pub fn calls(&self) -> u64
-        ensures value { result ≡ self.now.record.calls }
+        ensures value { result ≡ (tally_of (record_of self.now)).calls }
     {
         self.record.calls
     }
@@ -59,7 +62,7 @@ impl<C: Ledger, T: Ledger, B: Room> Pass<C, T, B> {
     /// As how many triples a page counts what the stages and patches brought that were not refused, with
     /// repeats (`gs_chronicle::list_size`, `ops_size`). The count stops at 2^64 - 1.
     pub fn triples(&self) -> u64
-        ensures value { result ≡ self.now.record.triples }
+        ensures value { result ≡ (tally_of (record_of self.now)).triples }
     {
         self.record.triples
     }

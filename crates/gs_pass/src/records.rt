@@ -1,6 +1,6 @@
 //! What a pass was told.
 ghost use Rattle.std.specs.Prelude.{◌≡◌, ◌≤◌, vec_capacity};
-ghost use Rattle.gs_pass.specs.Tallies.{tally_of, Enters};
+ghost use Rattle.gs_pass.specs.Tallies.{seat_in, tally_of, Enters};
 
 use crate::receipts::{MAX_RECEIPTS, Receipt};
 
@@ -16,21 +16,21 @@ pub struct Record {
 impl Record {
     /// The seat.
     pub fn seat(&self) -> u16
-        ensures value { result ≡ self.now.seat }
+        ensures value { result ≡ seat_in self.now }
     {
         self.seat
     }
 
     /// Receipts of the first 4,096 deciding calls that were not refused, the oldest first.
     pub fn receipts(&self) -> &[Receipt]
-        ensures value { result.now ≡ self.now.receipts.items }
+        ensures value { result.now ≡ (tally_of self.now).receipts }
     {
         self.receipts.as_slice()
     }
 
     /// How many deciding calls were not refused. The count stops at 2^64 - 1.
     pub fn calls(&self) -> u64
-        ensures value { result ≡ self.now.calls }
+        ensures value { result ≡ (tally_of self.now).calls }
     {
         self.calls
     }
@@ -38,7 +38,7 @@ impl Record {
     /// As how many triples a page counts what the stages and patches brought that were not refused, with
     /// repeats (`gs_chronicle::list_size`, `ops_size`). The count stops at 2^64 - 1.
     pub fn triples(&self) -> u64
-        ensures value { result ≡ self.now.triples }
+        ensures value { result ≡ (tally_of self.now).triples }
     {
         self.triples
     }

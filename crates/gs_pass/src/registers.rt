@@ -1,9 +1,9 @@
 //! What lies under the lock beside the store: all stamps, and the totals of both ledgers.
-ghost use Rattle.std.specs.Prelude.{◌≡◌, ◌<◌, ◌≤◌, ◌+◌, [], ◌∷◌, ◌++◌, length, map, vec_capacity};
+ghost use Rattle.std.specs.Prelude.{◌≡◌, ◌<◌, ◌≤◌, ◌+◌, [], ◌∷◌, ◌++◌, length, map, vec_capacity, None};
 ghost use Rattle.std.specs.List.{sum_by, All};
 ghost use Rattle.crossbeam_utils.specs.Seq.{cell_view};
 ghost use Rattle.gs_pass.specs.Stamps.{keeper as keeper_of, stamp, stamp_of};
-ghost use Rattle.gs_pass.specs.Tallies.{tally_of, count_plus, Enters, IsFresh};
+ghost use Rattle.gs_pass.specs.Tallies.{seat_in, tally_of, count_plus, CountsCall, Enters, IsFresh};
 ghost use Rattle.gs_pass.specs.Backing.{IsBacked};
 
 use crate::cells::{Hands, StampCell, Token};
@@ -30,6 +30,9 @@ pub struct Register<C: Ledger, T: Ledger, B: Room> {
 }
 
 impl<C: Ledger, T: Ledger, B: Room> Register<C, T, B> {
+    ghost use Rattle.gs_pass.specs.Passes.{record_of, call_share_of, triple_share_of};
+    ghost use Rattle.gs_pass.specs.Registers.{all_stamps, total_calls, total_triples};
+
     /// A register of no pass, and the shares that passes are given parts of.
     pub fn new(
         keeper: Token,
@@ -39,9 +42,9 @@ impl<C: Ledger, T: Ledger, B: Room> Register<C, T, B> {
         requires keeper { (keeper.table_id ≡ B.table) × (cell_view keeper ≡ keeper_of [] []) }
         requires calls { (calls.name ≡ C.name) × (calls.parts ≡ C.parts) }
         requires triples { (triples.name ≡ T.name) × (triples.parts ≡ T.parts) }
-        ensures none { ((cell_view result.0.keeper).all ≡ [])
-            × (result.0.calls.total ≡ 0)
-            × (result.0.triples.total ≡ 0) }
+        ensures none { (all_stamps result.0 ≡ [])
+            × (total_calls result.0 ≡ 0)
+            × (total_triples result.0 ≡ 0) }
         ensures calls { (result.1.parts ≡ C.parts) × (result.1.amount ≡ 0) }
         ensures triples { (result.2.parts ≡ T.parts) × (result.2.amount ≡ 0) }
     {
@@ -69,10 +72,10 @@ impl<C: Ledger, T: Ledger, B: Room> Register<C, T, B> {
         requires seat { seat < B.start.seats }
         requires calls { (call_share.parts ≡ 1) × (call_share.amount ≡ 0) }
         requires triples { (triple_share.parts ≡ 1) × (triple_share.amount ≡ 0) }
-        ensures fresh { (result.record.seat ≡ seat) × IsFresh (tally_of result.record) }
-        ensures stamps { (cell_view self.new.keeper).all ≡ (cell_view self.old.keeper).all }
-        ensures totals { (self.new.calls.total ≡ self.old.calls.total)
-            × (self.new.triples.total ≡ self.old.triples.total) }
+        ensures fresh { (seat_in (record_of result) ≡ seat) × IsFresh (tally_of (record_of result)) }
+        ensures stamps { all_stamps self.new ≡ all_stamps self.old }
+        ensures totals { (total_calls self.new ≡ total_calls self.old)
+            × (total_triples self.new ≡ total_triples self.old) }
     {
         let token = cell.split_pass::<Hands>(&mut self.keeper);
         let ReceiptRoom { receipts } = space;
@@ -100,12 +103,12 @@ impl<C: Ledger, T: Ledger, B: Room> Register<C, T, B> {
         receipt: Receipt,
     )
         requires cell { cell.now.table.shared.table_id ≡ B.table }
-        ensures stamps { (cell_view self.new.keeper).all
-            ≡ (cell_view self.old.keeper).all ++ stamp pass.old.record.seat receipt ∷ [] }
-        ensures totals { (self.new.calls.total ≡ self.old.calls.total + 1)
-            × (self.new.triples.total ≡ self.old.triples.total) }
-        ensures seat { pass.new.record.seat ≡ pass.old.record.seat }
-        ensures entered { Enters receipt (tally_of pass.old.record) (tally_of pass.new.record) }
+        ensures stamps { all_stamps self.new
+            ≡ all_stamps self.old ++ stamp (seat_in (record_of pass.old)) receipt ∷ [] }
+        ensures totals { (total_calls self.new ≡ total_calls self.old + 1)
+            × (total_triples self.new ≡ total_triples self.old) }
+        ensures seat { seat_in (record_of pass.new) ≡ seat_in (record_of pass.old) }
+        ensures entered { Enters receipt (tally_of (record_of pass.old)) (tally_of (record_of pass.new)) }
     {
         let words = words(pass.record.seat, receipt);
         note(rt, cell, &mut self.keeper, &mut pass.token, words);
@@ -115,13 +118,13 @@ impl<C: Ledger, T: Ledger, B: Room> Register<C, T, B> {
 
     /// Counts triples that the pass brought.
     pub fn count(&mut self, pass: &mut Pass<C, T, B>, triples: u64)
-        ensures stamps { (cell_view self.new.keeper).all ≡ (cell_view self.old.keeper).all }
-        ensures totals { (self.new.calls.total ≡ self.old.calls.total)
-            × (self.new.triples.total ≡ self.old.triples.total + triples) }
-        ensures seat { pass.new.record.seat ≡ pass.old.record.seat }
-        ensures same { (pass.new.record.receipts.items ≡ pass.old.record.receipts.items)
-            × (pass.new.record.calls ≡ pass.old.record.calls) }
-        ensures counted { pass.new.record.triples ≡ count_plus pass.old.record.triples triples }
+        ensures stamps { all_stamps self.new ≡ all_stamps self.old }
+        ensures totals { (total_calls self.new ≡ total_calls self.old)
+            × (total_triples self.new ≡ total_triples self.old + triples) }
+        ensures seat { seat_in (record_of pass.new) ≡ seat_in (record_of pass.old) }
+        ensures same { CountsCall None (tally_of (record_of pass.old)) (tally_of (record_of pass.new)) }
+        ensures counted { (tally_of (record_of pass.new)).triples
+            ≡ count_plus (tally_of (record_of pass.old)).triples triples }
     {
         self.triples.add(&mut pass.triple_share, triples);
         pass.record.triples = pass.record.triples.saturating_add(triples);
@@ -137,15 +140,15 @@ impl<C: Ledger, T: Ledger, B: Room> Register<C, T, B> {
         pass: Pass<C, T, B>,
     ) -> Record
         requires cell { cell.now.table.shared.table_id ≡ B.table }
-        ensures stamps { (cell_view self.new.keeper).all ≡ (cell_view self.old.keeper).all }
-        ensures totals { (self.new.calls.total ≡ self.old.calls.total)
-            × (self.new.triples.total ≡ self.old.triples.total) }
+        ensures stamps { all_stamps self.new ≡ all_stamps self.old }
+        ensures totals { (total_calls self.new ≡ total_calls self.old)
+            × (total_triples self.new ≡ total_triples self.old) }
         ensures calls { (call_share.new.parts ≡ call_share.old.parts + 1)
-            × (call_share.new.amount ≡ call_share.old.amount + pass.call_share.amount) }
+            × (call_share.new.amount ≡ call_share.old.amount + (call_share_of pass).amount) }
         ensures triples { (triple_share.new.parts ≡ triple_share.old.parts + 1)
-            × (triple_share.new.amount ≡ triple_share.old.amount + pass.triple_share.amount) }
-        ensures record { result ≡ pass.record }
-        ensures backed { IsBacked (cell_view self.old.keeper).all result }
+            × (triple_share.new.amount ≡ triple_share.old.amount + (triple_share_of pass).amount) }
+        ensures record { result ≡ record_of pass }
+        ensures backed { IsBacked (all_stamps self.old) result }
     {
         let Pass {
             record,
@@ -172,17 +175,17 @@ impl<C: Ledger, T: Ledger, B: Room> Register<C, T, B> {
     )
         requires cell { cell.now.table.shared.table_id ≡ B.table }
         requires room { (records.old.items ≡ []) × (length passes.items ≤ vec_capacity records.old) }
-        ensures stamps { (cell_view self.new.keeper).all ≡ (cell_view self.old.keeper).all }
-        ensures totals { (self.new.calls.total ≡ self.old.calls.total)
-            × (self.new.triples.total ≡ self.old.triples.total) }
+        ensures stamps { all_stamps self.new ≡ all_stamps self.old }
+        ensures totals { (total_calls self.new ≡ total_calls self.old)
+            × (total_triples self.new ≡ total_triples self.old) }
         ensures calls { (call_share.new.parts ≡ call_share.old.parts + length passes.items)
             × (call_share.new.amount
-            ≡ call_share.old.amount + sum_by (λ p. p.call_share.amount) passes.items) }
+            ≡ call_share.old.amount + sum_by (λ p. (call_share_of p).amount) passes.items) }
         ensures triples { (triple_share.new.parts ≡ triple_share.old.parts + length passes.items)
             × (triple_share.new.amount
-            ≡ triple_share.old.amount + sum_by (λ p. p.triple_share.amount) passes.items) }
-        ensures records { records.new.items ≡ map (λ p. p.record) passes.items }
-        ensures backed { All (IsBacked (cell_view self.old.keeper).all) records.new.items }
+            ≡ triple_share.old.amount + sum_by (λ p. (triple_share_of p).amount) passes.items) }
+        ensures records { records.new.items ≡ map record_of passes.items }
+        ensures backed { All (IsBacked (all_stamps self.old)) records.new.items }
     {
         for pass in passes {
             let record = self.close(rt, cell, call_share, triple_share, pass);
@@ -192,11 +195,11 @@ impl<C: Ledger, T: Ledger, B: Room> Register<C, T, B> {
 
     /// Shows how the shares stand to the totals: one with every part has the total.
     pub fn audit(&mut self, call_share: &mut Share<C>, triple_share: &mut Share<T>)
-        ensures totals { (self.new.calls.total ≡ self.old.calls.total)
-            × (self.new.triples.total ≡ self.old.triples.total) }
-        ensures calls { call_share.old.parts ≡ C.parts → call_share.old.amount ≡ self.old.calls.total }
+        ensures totals { (total_calls self.new ≡ total_calls self.old)
+            × (total_triples self.new ≡ total_triples self.old) }
+        ensures calls { call_share.old.parts ≡ C.parts → call_share.old.amount ≡ total_calls self.old }
         ensures triples { triple_share.old.parts ≡ T.parts
-            → triple_share.old.amount ≡ self.old.triples.total }
+            → triple_share.old.amount ≡ total_triples self.old }
     {
         self.calls.audit(call_share);
         self.triples.audit(triple_share);

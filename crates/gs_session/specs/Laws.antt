@@ -13,7 +13,7 @@ use Rattle.gs_talk.specs.Closings.{SaysFront}
 use Rattle.gs_talk.specs.Laws.{HasMisfit, IsIdle}
 use Rattle.gs_session.specs.declared.sessions.Session.{Session}
 use Rattle.gs_session.specs.Steps.{server_of}
-use Rattle.gs_session.specs.Turns.{Leads, Ran}
+use Rattle.gs_session.specs.Turns.{setup_of, is_input_ended, Leads, Ran}
 
 -- the store shows the seat as idle
 abbrev pub IsIdleAt : ℕ → Shown → Type 0
@@ -38,4 +38,4 @@ StoresAreLegal = (seat : ℕ) (first last : Shown) (h : Deeds) (start : Start) (
 
 -- what was written is a prefix of what is to be said, at any moment
 abbrev pub SaysFrontAlways : Type 0
-SaysFrontAlways = (s : Session) (x : List ℕ) (h : Deeds) (w : List ℕ) → Leads s x h w → SaysFront (server_of s.setup) s.ended x h w
+SaysFrontAlways = (s : Session) (x : List ℕ) (h : Deeds) (w : List ℕ) → Leads s x h w → SaysFront (server_of (setup_of s)) (is_input_ended s) x h w

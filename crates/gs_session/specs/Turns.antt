@@ -11,6 +11,7 @@ use Rattle.gs_session.specs.declared.phases.Work.{Work}
 use Rattle.gs_session.specs.declared.phases.Work.TheVariants.{Opening, Skipping}
 use Rattle.gs_session.specs.declared.phases.Phase.{Phase}
 use Rattle.gs_session.specs.declared.phases.Phase.TheVariants as phase
+use Rattle.gs_session.specs.declared.setups.Setup.{Setup}
 use Rattle.gs_session.specs.declared.sessions.Session.{Session}
 use Rattle.gs_session.specs.declared.sessions.Turn.{Turn}
 use Rattle.gs_session.specs.declared.sessions.Turn.TheVariants.{NeedInput, Made, Output, Over}
@@ -18,10 +19,30 @@ use Rattle.gs_session.specs.declared.outcomes.Next.{Next}
 use Rattle.gs_session.specs.Leads.{LeadsTo, MayCome}
 use Rattle.gs_session.specs.Steps.{TakesAction, server_of}
 
+-- what stays the same for all requests of a session: its seat, the base of its store, the lines a piece, and its allocator
+abbrev pub setup_of : Session → Setup
+setup_of s = s.setup
+
+-- the seat of a session
+abbrev pub seat_of : Session → ℕ
+seat_of s = (setup_of s).seat
+
+-- the input of a session has ended
+abbrev pub is_input_ended : Session → Bool
+is_input_ended s = s.ended
+
+-- what a session has said and is due to be written
+abbrev pub bytes_due : Session → List ℕ
+bytes_due s = s.due.items
+
+-- a session is over: it does nothing more, but for what is due to be written
+abbrev pub IsSessionOver : Session → Type 0
+IsSessionOver s = s.phase ≡ phase.Over
+
 -- The bytes x that came, what was done for them, and what was written, lead to this session. What is due was said and not
 -- written yet.
 abbrev pub Leads : Session → List ℕ → Deeds → List ℕ → Type 0
-Leads s x h w = LeadsTo (server_of s.setup) s.ended s.phase s.input x h (w ++ s.due.items)
+Leads s x h w = LeadsTo (server_of (setup_of s)) (is_input_ended s) s.phase s.input x h (w ++ bytes_due s)
 
 -- each such history leads to the other session
 abbrev pub IsKept : Session → Session → Type 0
@@ -34,18 +55,18 @@ StaysSo {D} s old next new = (new ≡ old) × IsKept s next
 -- A turn: one event of the session's seat, a text that is not empty, or nothing. Each history that led to the session leads,
 -- with that more, to the session after it.
 abbrev pub MakesTurn : {D : Type 0} → (D → Event → Answer → D → Type 0) → Session → D → Turn → Session → D → Type 0
-MakesTurn {D} gives s old Made next new = (action : Action) × (answer : Answer) × TakesAction gives s.setup.seat old action answer new
+MakesTurn {D} gives s old Made next new = (action : Action) × (answer : Answer) × TakesAction gives (seat_of s) old action answer new
     × ((x : List ℕ) (h : Deeds) (w : List ℕ) → Leads s x h w → Leads next x (h ++ (action, answer) ∷ []) w)
 MakesTurn {D} gives s old (Output b) next new = (new ≡ old) × (b.items ≢ []) × ((x : List ℕ) (h : Deeds) (w : List ℕ) → Leads s x h w → Leads next x h (w ++ b.items))
 MakesTurn {D} gives s old turn next new = StaysSo s old next new
 
 -- where more input is wanted, it may come, and all that is to be said was written
 abbrev pub AwaitsInput : Session → Type 0
-AwaitsInput s = (s.ended ≡ false) × ((x : List ℕ) (h : Deeds) (w : List ℕ) → Leads s x h w → SaysAll (server_of s.setup) false x h w)
+AwaitsInput s = (is_input_ended s ≡ false) × ((x : List ℕ) (h : Deeds) (w : List ℕ) → Leads s x h w → SaysAll (server_of (setup_of s)) false x h w)
 
 -- where the connection has ended, all that is to be said was written, and no request is left
 abbrev pub HasEnded : Session → Type 0
-HasEnded s = (x : List ℕ) (h : Deeds) (w : List ℕ) → Leads s x h w → SaysLast (server_of s.setup) s.ended x h w
+HasEnded s = (x : List ℕ) (h : Deeds) (w : List ℕ) → Leads s x h w → SaysLast (server_of (setup_of s)) (is_input_ended s) x h w
 
 -- what waits or has ended does so rightly
 abbrev pub RestsRightly : Turn → Session → Type 0
@@ -88,6 +109,6 @@ CancelsOnce ds = (ds ≡ []) ⊎ ((answer : Answer) × (ds ≡ (Cancel, answer) 
 -- The connection is given up. With what was cancelled, each history that led to the session was a conversation up to here, also
 -- where more bytes had come that it never took; and the seat is idle, unless an answer did not fit.
 abbrev pub Quits : {D : Type 0} → (D → Event → Answer → D → Type 0) → Session → D → D → Type 0
-Quits {D} gives s old new = (ds : Deeds) × CancelsOnce ds × Ran gives s.setup.seat old ds new
-    × ((x : List ℕ) (h : Deeds) (w y : List ℕ) → Leads s x h w → MayCome s.ended y
-    → SaysFront (server_of s.setup) s.ended (x ++ y) (h ++ ds) w × (AreOfKind s.setup.seat (h ++ ds) → IsIdle (h ++ ds)))
+Quits {D} gives s old new = (ds : Deeds) × CancelsOnce ds × Ran gives (seat_of s) old ds new
+    × ((x : List ℕ) (h : Deeds) (w y : List ℕ) → Leads s x h w → MayCome (is_input_ended s) y
+    → SaysFront (server_of (setup_of s)) (is_input_ended s) (x ++ y) (h ++ ds) w × (AreOfKind (seat_of s) (h ++ ds) → IsIdle (h ++ ds)))

@@ -3,7 +3,7 @@ ghost use Rattle.std.specs.Prelude.{◌≡◌, ◌<◌, ℕ, List, [], length, t
 ghost use Rattle.gs_model.specs.Bases.{is_base};
 ghost use Rattle.gs_talk.specs.Seats.{Deeds};
 ghost use Rattle.gs_session.specs.Steps.{server_of};
-ghost use Rattle.gs_session.specs.Turns.{Leads, IsKept, MakesTurn, RestsRightly, Quits, joined_input, taken, waiting, turn_at, has_opened as has_opened_at};
+ghost use Rattle.gs_session.specs.Turns.{setup_of, seat_of, is_input_ended, bytes_due, IsSessionOver, Leads, IsKept, MakesTurn, RestsRightly, Quits, joined_input, taken, waiting, turn_at, has_opened as has_opened_at};
 
 use crate::bodies::send;
 use crate::buffers::Buffer;
@@ -52,9 +52,10 @@ impl Session {
     pub fn new(alloc: Global, seat: u16, base: &str, piece: u32) -> Result<Session, AllocError>
         requires { is_base base.now ≡ true }
         ensures leads { IfOk result (λ s. Leads s [] [] []) }
-        ensures server { IfOk result (λ s. server_of s.setup ≡ record { base = base.now; piece = piece }) }
-        ensures seat { IfOk result (λ s. s.setup.seat ≡ seat) }
-        ensures goes { IfOk result (λ s. s.ended ≡ false) }
+        ensures server { IfOk result
+            (λ s. server_of (setup_of s) ≡ record { base = base.now; piece = piece }) }
+        ensures seat { IfOk result (λ s. seat_of s ≡ seat) }
+        ensures goes { IfOk result (λ s. is_input_ended s ≡ false) }
     {
         let site = Site::new(alloc, base)?;
         Ok(Session {
@@ -73,11 +74,11 @@ impl Session {
 
     /// The next bytes come. After the end of the input they are dropped.
     pub fn give(&mut self, piece: &[u8]) -> Result<(), AllocError>
-        ensures given { OnOk result ((x : List ℕ) (h : Deeds) (w : List ℕ)
-            → Leads self.old x h w → Leads self.new (joined_input self.old.ended x piece.now) h w) }
+        ensures given { OnOk result ((x : List ℕ) (h : Deeds) (w : List ℕ) → Leads self.old x h w
+            → Leads self.new (joined_input (is_input_ended self.old) x piece.now) h w) }
         ensures refused { OnErr result (self.new ≡ self.old) }
-        ensures setup { self.new.setup ≡ self.old.setup }
-        ensures ended { self.new.ended ≡ self.old.ended }
+        ensures setup { setup_of self.new ≡ setup_of self.old }
+        ensures ended { is_input_ended self.new ≡ is_input_ended self.old }
     {
         if self.ended {
             return Ok(());
@@ -88,8 +89,8 @@ impl Session {
     /// No more bytes come.
     pub fn end_of_input(&mut self)
         ensures leads { IsKept self.old self.new }
-        ensures setup { self.new.setup ≡ self.old.setup }
-        ensures ended { self.new.ended ≡ true }
+        ensures setup { setup_of self.new ≡ setup_of self.old }
+        ensures ended { is_input_ended self.new ≡ true }
     {
         self.ended = true;
     }
@@ -140,8 +141,8 @@ impl Session {
         ensures turns { result ≡ true
             → MakesTurn D.Gives self.old door.old Turn.Made self.new door.new }
         ensures stays { result ≡ false → (self.new ≡ self.old) × (door.new ≡ door.old) }
-        ensures setup { self.new.setup ≡ self.old.setup }
-        ensures ended { self.new.ended ≡ self.old.ended }
+        ensures setup { setup_of self.new ≡ setup_of self.old }
+        ensures ended { is_input_ended self.new ≡ is_input_ended self.old }
     {
         match mem::replace(&mut self.phase, Phase::Over) {
             Phase::Serving(asked, Work::Sending) => {
@@ -169,8 +170,8 @@ impl Session {
     pub fn turn<D: Door>(&mut self, door: &mut D) -> Turn
         ensures turns { MakesTurn D.Gives self.old door.old result self.new door.new }
         ensures rests { RestsRightly result self.new }
-        ensures setup { self.new.setup ≡ self.old.setup }
-        ensures ended { self.new.ended ≡ self.old.ended }
+        ensures setup { setup_of self.new ≡ setup_of self.old }
+        ensures ended { is_input_ended self.new ≡ is_input_ended self.old }
     {
         if self.is_short() && self.gather(door) {
             return Turn::Made;
@@ -193,10 +194,10 @@ impl Session {
     /// dropped. Afterwards the session does nothing more.
     pub fn abandon<D: Door>(&mut self, door: &mut D)
         ensures quits { Quits D.Gives self.old door.old door.new }
-        ensures over { self.new.phase ≡ Phase.Over }
-        ensures nothing_due { self.new.due.items ≡ [] }
-        ensures setup { self.new.setup ≡ self.old.setup }
-        ensures ended { self.new.ended ≡ self.old.ended }
+        ensures over { IsSessionOver self.new }
+        ensures nothing_due { bytes_due self.new ≡ [] }
+        ensures setup { setup_of self.new ≡ setup_of self.old }
+        ensures ended { is_input_ended self.new ≡ is_input_ended self.old }
     {
         if let Phase::Serving(_, work) = &self.phase {
             if has_opened(work) {

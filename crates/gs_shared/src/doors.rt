@@ -15,6 +15,7 @@ pub struct PassDoor<'a, C: Ledger, T: Ledger, B: Room, R: Wait> {
 
 impl<'a, C: Ledger, T: Ledger, B: Room, R: Wait> PassDoor<'a, C, T, B, R> {
     ghost use Rattle.std.specs.Prelude.{◌≡◌};
+    ghost use Rattle.gs_shared.specs.Doors.{pass_of};
 
     /// The door of this pass.
     pub fn new(
@@ -22,21 +23,21 @@ impl<'a, C: Ledger, T: Ledger, B: Room, R: Wait> PassDoor<'a, C, T, B, R> {
         store: &'a SharedStore<C, T, B>,
         pass: Pass<C, T, B>,
     ) -> PassDoor<'a, C, T, B, R>
-        ensures { result.pass ≡ pass }
+        ensures { pass_of result ≡ pass }
     {
         PassDoor { rt, store, pass }
     }
 
     /// The pass.
     pub fn pass(&self) -> &Pass<C, T, B>
-        ensures { result.now ≡ self.now.pass }
+        ensures { result.now ≡ pass_of self.now }
     {
         &self.pass
     }
 
     /// Takes the pass out.
     pub fn into_pass(self) -> Pass<C, T, B>
-        ensures { result ≡ self.entry.pass }
+        ensures { result ≡ pass_of self.entry }
     {
         let PassDoor {
             rt: _,
@@ -49,9 +50,12 @@ impl<'a, C: Ledger, T: Ledger, B: Room, R: Wait> PassDoor<'a, C, T, B, R> {
 
 impl<'a, C: Ledger, T: Ledger, B: Room, R: Wait> Door for PassDoor<'a, C, T, B, R> {
     ghost use Rattle.gs_door.specs.Kinds.{IsOfKind};
+    ghost use Rattle.gs_pass.specs.Passes.{record_of};
+    ghost use Rattle.gs_shared.specs.Doors.{pass_of};
     ghost use Rattle.gs_shared.specs.Tells.{Tells};
 
-    ghost Gives = { λ old e a new. IsOfKind e a × Tells e a old.pass.record new.pass.record };
+    ghost Gives = { λ old e a new. IsOfKind e a
+        × Tells e a (record_of (pass_of old)) (record_of (pass_of new)) };
 
     fn event(&mut self, event: Event) -> Answer {
         self.store.event(self.rt, &mut self.pass, event)

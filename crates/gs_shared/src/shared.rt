@@ -4,6 +4,7 @@ ghost use Rattle.crossbeam_utils.specs.Seq.{cell_view};
 ghost use Rattle.gs_model.specs.Bases.{is_base};
 ghost use Rattle.gs_model.specs.Limits.{max_seats};
 ghost use Rattle.gs_model.specs.declared.refusals.Refusal.TheVariants.{BadSeat as IsBadSeat};
+ghost use Rattle.gs_audit.specs.Audits.{audited_store, audited_page};
 ghost use Rattle.gs_core.specs.Settings.{start_at};
 ghost use Rattle.gs_chronicle.specs.Views.{page_of};
 ghost use Rattle.gs_door.specs.Kinds.{IsOfKind};
@@ -49,6 +50,9 @@ pub struct Shared<C: CountedLedger, T: CountedLedger, B: Room> {
 }
 
 impl<C: CountedLedger, T: CountedLedger, B: Room> Shared<C, T, B> {
+    ghost use Rattle.gs_pass.specs.Passes.{record_of};
+    ghost use Rattle.gs_shared.specs.Shared.{seat_count, passes_handed_out, shared_store};
+
     /// A new store with this base, for so many seats, 1 to 512, of which no pass is handed out yet.
     /// `gs_core::is_base` tests a base. The seed spreads terms and, by doors, labels of blank nodes, and shows
     /// in nothing but time: where strangers choose these, it is a random number that is kept from them. The
@@ -83,7 +87,7 @@ impl<C: CountedLedger, T: CountedLedger, B: Room> Shared<C, T, B> {
             × (triples.parts ≡ T.parts)
             × (T.all ≡ T.parts)
             × (seats < T.all) }
-        ensures fresh { IfOk result (λ s. (s.seats ≡ seats) × (s.handed ≡ 0)) }
+        ensures fresh { IfOk result (λ s. (seat_count s ≡ seats) × (passes_handed_out s ≡ 0)) }
         ensures refused { IfErr result (λ refusal. refusal ≡ Refusal.NoMemory) }
     {
         let audited = Audited::seeded(alloc, seats, base, seed)?;
@@ -113,14 +117,14 @@ impl<C: CountedLedger, T: CountedLedger, B: Room> Shared<C, T, B> {
 
     /// The lock, which threads share.
     pub fn store(&self) -> &SharedStore<C, T, B>
-        ensures { result.now ≡ self.now.store }
+        ensures { result.now ≡ shared_store self.now }
     {
         &self.store
     }
 
     /// Takes one event, as `SharedStore::event` does.
     pub fn event<R: Wait>(&self, rt: &R, pass: &mut Pass<C, T, B>, event: Event) -> Answer
-        ensures told { Tells event result pass.old.record pass.new.record }
+        ensures told { Tells event result (record_of pass.old) (record_of pass.new) }
         ensures kind { IsOfKind event result }
     {
         self.store.event(rt, pass, event)
@@ -133,13 +137,15 @@ impl<C: CountedLedger, T: CountedLedger, B: Room> Shared<C, T, B> {
     ///
     /// `BadSeat` where fewer seats are left, and `NoMemory`.
     pub fn passes(&mut self, n: u16) -> Result<Vec<Pass<C, T, B>>, Refusal>
-        ensures bad_seat { (result ≡ Err IsBadSeat) ↔ (self.old.seats < self.old.handed + n) }
+        ensures bad_seat { (result ≡ Err IsBadSeat) ↔ (seat_count self.old < passes_handed_out self.old + n) }
         ensures refused { IfErr result (λ refusal.
-            self.old.handed + n ≤ self.old.seats → refusal ≡ Refusal.NoMemory) }
+            passes_handed_out self.old + n ≤ seat_count self.old → refusal ≡ Refusal.NoMemory) }
         ensures passes { IfOk result (λ v.
-            (length v.items ≡ n) × From (λ seat p. IsFreshOf seat p.record) self.old.handed v.items) }
+            (length v.items ≡ n)
+            × From (λ seat p. IsFreshOf seat (record_of p)) (passes_handed_out self.old) v.items) }
         ensures handed { OnOk result
-            ((self.new.handed ≡ self.old.handed + n) × (self.new.seats ≡ self.old.seats)) }
+            ((passes_handed_out self.new ≡ passes_handed_out self.old + n)
+            × (seat_count self.new ≡ seat_count self.old)) }
         ensures kept { OnErr result (self.new ≡ self.old) }
     {
         if n > self.seats - self.handed {
@@ -198,13 +204,13 @@ impl<C: CountedLedger, T: CountedLedger, B: Room> Shared<C, T, B> {
     /// The value that was locked, and what the passes were told, once all that were handed out are
     /// back.
     pub fn end<R: Wait>(self, rt: &R, passes: Vec<Pass<C, T, B>>) -> Ended
-        requires back { length passes.items ≡ self.handed }
-        ensures records { result.passes.items ≡ map (λ p. p.record) passes.items }
-        ensures turned { FitOnePage result.passes.items → (page_of result.audited.chronicle).number ≡ 0 }
-        ensures within { IsWithinPage (page_of result.audited.chronicle) }
-        ensures many { HasAllCalls (page_of result.audited.chronicle) result.passes.items }
-        ensures stand { AllStand (page_of result.audited.chronicle) result.passes.items }
-        ensures began { BeganAs B.start result.audited.store.view }
+        requires back { length passes.items ≡ passes_handed_out self }
+        ensures records { result.passes.items ≡ map record_of passes.items }
+        ensures turned { FitOnePage result.passes.items → (page_of (audited_page result.audited)).number ≡ 0 }
+        ensures within { IsWithinPage (page_of (audited_page result.audited)) }
+        ensures many { HasAllCalls (page_of (audited_page result.audited)) result.passes.items }
+        ensures stand { AllStand (page_of (audited_page result.audited)) result.passes.items }
+        ensures began { BeganAs B.start (audited_store result.audited).view }
     {
         let Shared {
             store,

@@ -1,6 +1,7 @@
 //! The lock, which threads share.
 ghost use Rattle.std.specs.Prelude.{◌≡◌};
 ghost use Rattle.gs_door.specs.Kinds.{IsOfKind};
+ghost use Rattle.gs_pass.specs.Passes.{record_of};
 ghost use Rattle.gs_shared.specs.Tells.{is_of_another as is_of_another_seat, Tells};
 
 use crate::asked::EventAsk;
@@ -28,7 +29,7 @@ impl<C: Ledger, T: Ledger, B: Room> SharedStore<C, T, B> {
     /// Takes one event, in one hold of the Mutex, and tells the pass. An action of another seat than
     /// the pass's is refused with `BadSeat`, and nothing else is.
     pub fn event<R: Wait>(&self, rt: &R, pass: &mut Pass<C, T, B>, mut event: Event) -> Answer
-        ensures told { Tells event result pass.old.record pass.new.record }
+        ensures told { Tells event result (record_of pass.old) (record_of pass.new) }
         ensures kind { IsOfKind event result }
     {
         if is_of_another(&event, pass.seat()) {

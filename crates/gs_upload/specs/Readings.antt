@@ -9,6 +9,10 @@ use Rattle.gs_body.specs.Bodies.{Meaning, Whole, all_stated}
 use Rattle.gs_upload.specs.declared.readings.Reading.{Reading}
 use Rattle.gs_upload.specs.Faults.{HasFault}
 
+-- the fault that the reading met and keeps, if any
+abbrev pub kept_fault : {R : Type 0} → Reading R → Option Refusal
+kept_fault k = k.fault
+
 -- the reader has read x and given ts, goes on, and a text means to it what `means` says
 pub record ReadsBodyOn {R : Type 0} (meaning_of : R → List ℕ → Meaning) (Leads : R → List ℕ → List RdfTriple → Type 0) (closed : R → Bool)
     (reader : R) (means : List ℕ → Meaning) (x : List ℕ) (ts : List RdfTriple) : Type 0 where
@@ -27,7 +31,7 @@ ReaderStands meaning_of Leads closed (Some e) reader means x ts = (y : List ℕ)
 pub record IsFedReading {R : Type 0} (meaning_of : R → List ℕ → Meaning) (Leads : R → List ℕ → List RdfTriple → Type 0) (closed : R → Bool)
     (k : Reading R) (means : List ℕ → Meaning) (x : List ℕ) (ts : List RdfTriple) : Type 0 where
   pub begun : (y : List ℕ) → Begins (all_stated (means (x ++ y)).0) ts
-  pub stands : ReaderStands meaning_of Leads closed k.fault k.reader means x ts
+  pub stands : ReaderStands meaning_of Leads closed (kept_fault k) k.reader means x ts
 
 -- Exactly the triples of the complete statements are given: of the longest prefix of x that ends between two characters,
 -- all that it means however it goes on.
@@ -43,14 +47,14 @@ pub record FeedsReading {R : Type 0} (meaning_of : R → List ℕ → Meaning) (
   pub fed : (means : List ℕ → Meaning) (x : List ℕ) (ts : List RdfTriple) → IsFedReading meaning_of Leads closed old means x ts
       → IsFedReading meaning_of Leads closed new means (x ++ text) (ts ++ given)
   pub complete : (means : List ℕ → Meaning) (x : List ℕ) (ts : List RdfTriple) → IsFedReading meaning_of Leads closed old means x ts
-      → new.fault ≡ None → GivesComplete means (x ++ text) (ts ++ given)
-  pub latched : (e : Refusal) → old.fault ≡ Some e → new.fault ≡ Some e
+      → kept_fault new ≡ None → GivesComplete means (x ++ text) (ts ++ given)
+  pub latched : (e : Refusal) → kept_fault old ≡ Some e → kept_fault new ≡ Some e
 
 -- the same of one piece: where a fault is kept nothing is given
 pub record FeedsPiece {R : Type 0} (meaning_of : R → List ℕ → Meaning) (Leads : R → List ℕ → List RdfTriple → Type 0) (closed : R → Bool)
     (old new : Reading R) (piece : List ℕ) (before after : List RdfTriple) : Type 0 where
   pub feeds : FeedsReading meaning_of Leads closed old new piece before after
-  pub silent : is_some new.fault ≡ true → after ≡ before
+  pub silent : is_some (kept_fault new) ≡ true → after ≡ before
 
 -- the pieces were fed one by one
 abbrev pub FeedsEach : {R : Type 0} → (R → List ℕ → Meaning) → (R → List ℕ → List RdfTriple → Type 0) → (R → Bool)
@@ -104,5 +108,5 @@ EndsReading meaning_of Leads closed k (Some e) before after = EndsFaulty meaning
 
 -- a call wanted memory and got none, and each later call is refused
 pub record IsClosedReading {R : Type 0} (closed : R → Bool) (k : Reading R) : Type 0 where
-  pub no_fault : k.fault ≡ None
+  pub no_fault : kept_fault k ≡ None
   pub refused : closed k.reader ≡ true

@@ -4,7 +4,7 @@ ghost use Rattle.gs_machine.specs.Machines.{Begins};
 ghost use Rattle.gs_model.specs.Iris.{is_absolute};
 ghost use Rattle.gs_model.specs.declared.refusals.Refusal.{Refusal as ARefusal};
 ghost use Rattle.gs_upload.specs.Faults.{ReportsFault, IsRefusedMemory};
-ghost use Rattle.gs_upload.specs.Readings.{IsFedReading, FeedsPiece, FeedsReading, FeedsPieces, EndsReading, IsClosedReading};
+ghost use Rattle.gs_upload.specs.Readings.{kept_fault, IsFedReading, FeedsPiece, FeedsReading, FeedsPieces, EndsReading, IsClosedReading};
 
 use crate::languages::Language;
 use crate::readers::TextReader;
@@ -43,7 +43,7 @@ impl<R: BodyReader + Drop> Reading<R> {
         requires fresh { R.Leads reader [] [] }
         requires unread { R.is_closed reader ≡ false }
         ensures fed { IsFedReading R.meaning_of R.Leads R.is_closed result (R.meaning_of reader) [] [] }
-        ensures no_fault { result.fault ≡ None }
+        ensures no_fault { kept_fault result ≡ None }
     {
         Reading {
             reader,
@@ -53,7 +53,7 @@ impl<R: BodyReader + Drop> Reading<R> {
 
     /// Whether the text has a fault, however it goes on.
     pub fn has_fault(&self) -> bool
-        ensures { result ≡ is_some self.now.fault }
+        ensures { result ≡ is_some (kept_fault self.now) }
     {
         self.fault.is_some()
     }
@@ -127,7 +127,7 @@ impl<R: BodyReader + Drop> Reading<R> {
         ensures ended { IfOk result (λ fault. EndsReading R.meaning_of R.Leads R.is_closed self fault
             triples.old.items triples.new.items) }
         ensures kept { OnErr result (triples.new.items ≡ triples.old.items) }
-        ensures latched { (e : ARefusal) → self.fault ≡ Some e → result ≡ Ok (Some e) }
+        ensures latched { (e : ARefusal) → kept_fault self ≡ Some e → result ≡ Ok (Some e) }
         ensures closed { IsClosedReading R.is_closed self → IsErr result }
     {
         if let Some(fault) = self.fault {
@@ -153,7 +153,7 @@ impl Reading<TextReader> {
     ) -> Result<Reading<TextReader>, AllocError>
         requires { is_absolute base.now ≡ true }
         ensures fed { IfOk result (λ k. IsFedText k (meaning_in language base.now request) [] []) }
-        ensures no_fault { IfOk result (λ k. k.fault ≡ None) }
+        ensures no_fault { IfOk result (λ k. kept_fault k ≡ None) }
     {
         let reader = TextReader::new(alloc, language, request, base, seed)?;
         Ok(Reading::of(reader))

@@ -12,7 +12,7 @@ use Rattle.gs_world.specs.declared.steps.WorldStep.{WorldStep}
 use Rattle.gs_world.specs.declared.steps.WorldStep.TheVariants.{Turn}
 use Rattle.gs_world.specs.declared.worlds.World.{World}
 use Rattle.gs_world.specs.Happenings.{Past, Input, input_of, deeds_at}
-use Rattle.gs_world.specs.Walks.{Walks}
+use Rattle.gs_world.specs.Walks.{store_of, Walks}
 use Rattle.gs_world.specs.Worlds.{LeadsToWorld, written_on, RunsSteps}
 
 -- by these events each history that led to the world before the turn leads on to the world after it
@@ -22,12 +22,12 @@ LeadsOnBy c more old new = (p : Server) (count : ℕ) (past : Past) (history : H
 
 -- the turn made an event, at the connection's seat, and wrote nothing
 abbrev pub MakesEvent : ℕ → World → World → Type 0
-MakesEvent c old new = (action : Action) × (answer : Answer) × Steps old.store (Seat c action) answer new.store × (written_on new c ≡ written_on old c)
+MakesEvent c old new = (action : Action) × (answer : Answer) × Steps (store_of old) (Seat c action) answer (store_of new) × (written_on new c ≡ written_on old c)
     × LeadsOnBy c ((Seat c action, answer) ∷ []) old new
 
 -- it wrote a text that is not empty, and made no event
 abbrev pub WritesText : ℕ → World → World → Type 0
-WritesText c old new = (text : List ℕ) × (text ≢ []) × (written_on new c ≡ written_on old c ++ text) × (new.store ≡ old.store) × LeadsOnBy c [] old new
+WritesText c old new = (text : List ℕ) × (text ≢ []) × (written_on new c ≡ written_on old c ++ text) × (store_of new ≡ store_of old) × LeadsOnBy c [] old new
 
 -- All that is to be said to what came was written, and each settled request has its outcome, up to the first reply that closes or
 -- stops. More may come; or the connection is over, as the input ended, or a reply closed or stopped.
@@ -41,7 +41,7 @@ HasSaidAll c w = (p : Server) (count : ℕ) (past : Past) (history : History) �
 
 -- the turn made no event and wrote nothing: all that is to be said was written
 abbrev pub SaysNothing : ℕ → World → World → Type 0
-SaysNothing c old new = (written_on new c ≡ written_on old c) × (new.store ≡ old.store) × LeadsOnBy c [] old new × HasSaidAll c new
+SaysNothing c old new = (written_on new c ≡ written_on old c) × (store_of new ≡ store_of old) × LeadsOnBy c [] old new × HasSaidAll c new
 
 -- The last step of a run is a turn of a connection that is there and was not dropped. Then it made an event, or wrote, or all that is
 -- to be said was written.

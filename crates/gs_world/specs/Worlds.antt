@@ -12,21 +12,21 @@ use Rattle.gs_talk.specs.Closings.{SaysFront}
 use Rattle.gs_talk.specs.Laws.{HasMisfit, AreOfKind, IsIdle}
 use Rattle.gs_session.specs.declared.sessions.Session.{Session}
 use Rattle.gs_session.specs.Steps.{server_of}
-use Rattle.gs_session.specs.Turns.{Leads}
+use Rattle.gs_session.specs.Turns.{setup_of, seat_of, is_input_ended, Leads}
 use Rattle.gs_world.specs.declared.connections.Connection.{Connection}
 use Rattle.gs_world.specs.declared.steps.WorldStep.{WorldStep}
 use Rattle.gs_world.specs.declared.steps.WorldStep.TheVariants.{Drop}
 use Rattle.gs_world.specs.declared.worlds.World.{World}
 use Rattle.gs_world.specs.Happenings.{Past, Input, no_input, input_of, deeds_at, AreMadeAfter, AreMadeBy}
 use Rattle.gs_world.specs.Merging.{IsMerged}
-use Rattle.gs_world.specs.Walks.{WalksAll, RefusesStep}
+use Rattle.gs_world.specs.Walks.{session_of, bytes_written, store_of, WalksAll, RefusesStep}
 
 -- what came, was done and was written leads to the session
 pub record LeadsToSession (p : Server) (seat : ℕ) (i : Input) (h : Deeds) (w : List ℕ) (s : Session) : Type 0 where
   pub leads : Leads s i.bytes h w
-  pub ended : s.ended ≡ i.ended
-  pub server : server_of s.setup ≡ p
-  pub seat_is : s.setup.seat ≡ seat
+  pub ended : is_input_ended s ≡ i.ended
+  pub server : server_of (setup_of s) ≡ p
+  pub seat_is : seat_of s ≡ seat
   pub live : i.is_dropped ≡ false
 
 -- the connection was given up: what was written is a prefix of what was to be said, and its seat was left idle
@@ -37,7 +37,7 @@ pub record HasLeft (p : Server) (seat : ℕ) (i : Input) (h : Deeds) (w : List �
 
 -- either
 abbrev pub HoldsTo : Server → ℕ → Input → Deeds → Connection → Type 0
-HoldsTo p seat i h k = MatchOption k.session (HasLeft p seat i h k.written.items) (LeadsToSession p seat i h k.written.items)
+HoldsTo p seat i h k = MatchOption (session_of k) (HasLeft p seat i h (bytes_written k)) (LeadsToSession p seat i h (bytes_written k))
 
 -- so many connections to which nothing came yet, each at the seat of its number
 pub record AreFresh (p : Server) (count : ℕ) (ks : List Connection) : Type 0 where
@@ -54,14 +54,14 @@ pub record LeadsToWorld (p : Server) (count : ℕ) (w : World) (past : Past) (hi
   pub many : length w.connections.items ≡ count
   pub made : AreMadeBy past history
   pub legal : IsLegal (world_start p count) history
-  pub view : w.store.view ≡ view_of (world_start p count) history
-  pub pinned : w.store.pinned ≡ pinned_of (world_start p count) history
+  pub view : (store_of w).view ≡ view_of (world_start p count) history
+  pub pinned : (store_of w).pinned ≡ pinned_of (world_start p count) history
   pub each : (c : ℕ) (k : Connection) → slice_get w.connections.items c ≡ Some k → HoldsTo p c (input_of c past) (deeds_at c history) k
 
 -- what was written on a connection, nothing where there is none
 abbrev pub text_written : Option Connection → List ℕ
 text_written None = []
-text_written (Some k) = k.written.items
+text_written (Some k) = bytes_written k
 
 -- what was written on the connection of this number
 abbrev pub written_on : World → ℕ → List ℕ
@@ -86,10 +86,10 @@ IsDone p i h = (i.is_dropped ≡ true) ⊎ ((said : List ℕ) × Talk p i.ended 
 pub record ServesAll (p : Server) (count : ℕ) (w : World) (past : Past) (history : History) : Type 0 where
   pub made : AreMadeBy past history
   pub legal : IsLegal (world_start p count) history
-  pub view : w.store.view ≡ view_of (world_start p count) history
+  pub view : (store_of w).view ≡ view_of (world_start p count) history
   pub merged : IsMerged count history
   pub served : (c : ℕ) → c < count → IsServed p (input_of c past) (deeds_at c history) (written_on w c)
-  pub idle : (c : ℕ) → c < count → IsDone p (input_of c past) (deeds_at c history) → slice_get w.store.view.seats c ≡ Some Idle
+  pub idle : (c : ℕ) → c < count → IsDone p (input_of c past) (deeds_at c history) → slice_get (store_of w).view.seats c ≡ Some Idle
 
 -- A run: the steps were taken; and from each history that led to the world before, one leads on to the world after them, by events
 -- that these steps made after those before, and by which all are served.

@@ -4,7 +4,7 @@ ghost use Rattle.gs_model.specs.Bases.{is_base};
 ghost use Rattle.gs_session.specs.declared.sessions.Session.{Session as ASession};
 ghost use Rattle.gs_world.specs.Happenings.{no_input};
 ghost use Rattle.gs_world.specs.Worlds.{HoldsTo};
-ghost use Rattle.gs_world.specs.Walks.{Gets, InputEnds, MovesOn, CannotWrite, LeavesSeat};
+ghost use Rattle.gs_world.specs.Walks.{session_of, bytes_written, Gets, InputEnds, MovesOn, CannotWrite, LeavesSeat};
 
 use gs_core::Store;
 use gs_session::{Session, Turn};
@@ -33,7 +33,7 @@ impl Connection {
 
     /// What was written.
     pub fn written(&self) -> &[u8]
-        ensures { result.now ≡ self.now.written.items }
+        ensures { result.now ≡ bytes_written self.now }
     {
         self.written.as_slice()
     }
@@ -42,7 +42,7 @@ impl Connection {
     pub fn give(&mut self, bytes: &[u8]) -> Result<(), AllocError>
         ensures given { OnOk result (Gets bytes.now self.old self.new) }
         ensures refused { OnErr result (self.new ≡ self.old) }
-        ensures live { OnErr result ((s : ASession) × (self.old.session ≡ Some s)) }
+        ensures live { OnErr result ((s : ASession) × (session_of self.old ≡ Some s)) }
     {
         match &mut self.session {
             Some(session) => session.give(bytes),

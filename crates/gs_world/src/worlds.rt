@@ -3,7 +3,7 @@ ghost use Rattle.std.specs.Prelude.{◌≡◌, ◌≤◌, ℕ, true, [], IfOk, I
 ghost use Rattle.gs_model.specs.Bases.{is_base};
 ghost use Rattle.gs_model.specs.Limits.{max_seats};
 ghost use Rattle.gs_event.specs.Births.{no_births};
-ghost use Rattle.gs_world.specs.Walks.{Apart, ChangesOne, Gets, InputEnds, MovesOn, LeavesSeat, FreesNodes, Walks, IsLive, HasText, IsGivenUp, RefusesStep};
+ghost use Rattle.gs_world.specs.Walks.{store_of, Apart, ChangesOne, Gets, InputEnds, MovesOn, LeavesSeat, FreesNodes, Walks, IsLive, HasText, IsGivenUp, RefusesStep};
 ghost use Rattle.gs_world.specs.Worlds.{AreFresh, LeadsToWorld, RunsSteps, IsCutAt, written_on};
 
 use crate::connections::Connection;
@@ -33,8 +33,8 @@ impl World {
         requires short { piece ≤ 4096 }
         ensures stands { IfOk result
             (λ w. LeadsToWorld (record { base = base.now; piece = piece }) connections w [] []) }
-        ensures waste { IfOk result (λ w. w.store.waste ≡ []) }
-        ensures births { IfOk result (λ w. w.store.births ≡ no_births connections) }
+        ensures waste { IfOk result (λ w. (store_of w).waste ≡ []) }
+        ensures births { IfOk result (λ w. (store_of w).births ≡ no_births connections) }
         ensures refused { IfErr result (λ refusal. refusal ≡ Refusal.NoMemory) }
     {
         let store = Store::new(alloc, connections, base)?;
