@@ -455,7 +455,10 @@ def dear_row(program, row):
         before = server.resident_bytes()
         with Bystander(server) as bystander:
             start = time.perf_counter()
-            status = client.status(request(method, "/graphs/many", media, text))
+            try:
+                status = client.status(request(method, "/graphs/many", media, text))
+            except TimeoutError:
+                raise SystemExit(f"{name}: no answer within {PATIENCE} s") from None
             taken = time.perf_counter() - start
             time.sleep(0.05)
         grown = server.resident_bytes() - before
