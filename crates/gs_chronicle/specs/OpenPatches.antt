@@ -21,7 +21,7 @@ open_patch_request p = p.request
 abbrev pub open_patch_since : OpenPatch → Option ℕ
 open_patch_since p = p.since
 
--- the forms that are noted of the operations that are committed next, if they could be made
+-- the forms that are noted of the operations that are committed next, or of those that the store refused, if they could be made
 abbrev pub open_patch_forms : OpenPatch → Option (Vec KeptOp Global)
 open_patch_forms p = p.forms
 

@@ -34,11 +34,12 @@ graph_so_far u = graph_of (triples_so_far u)
 abbrev pub count_so_far : OpenUpload → ℕ
 count_so_far u = u.count
 
--- how many lists are kept apart so far, what is gathered not counted
+-- how many lists it keeps so far: small forms, and what was gathered before one, as one list; what was gathered after the last one is
+-- not counted
 abbrev pub lists_kept_apart : OpenUpload → ℕ
 lists_kept_apart u = vec_len u.lists
 
--- the small form of the list that is staged next, where it is kept by one
+-- the small form of the list that is staged next, or of one that the store refused, where it is kept by one
 abbrev pub next_form : OpenUpload → Option SmallTriples
 next_form u = u.next
 
