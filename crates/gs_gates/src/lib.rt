@@ -1,5 +1,5 @@
-//! What stands around the workers of a server: gates before their events, notes after them and the
-//! reclaimer whom these wake, the accept loop, the end of a connection, and how long is waited.
+//! What stands around the workers of a server: gates before their events, turns of long reads, notes after
+//! events and the reclaimer whom these wake, the accept loop, the end of a connection, and how long is waited.
 #![tactic(auto)]
 
 mod accepting;
@@ -10,6 +10,7 @@ mod limits;
 mod lingering;
 mod notes;
 mod reclaimers;
+mod turns;
 
 pub use accepting::accept_all;
 pub use counters::Counter;
@@ -22,3 +23,4 @@ pub use limits::{
 pub use lingering::{Others, linger};
 pub use notes::{Note, NoteDoor};
 pub use reclaimers::{reclaim, sweep_after, sweep_and_rest};
+pub use turns::TurnDoor;

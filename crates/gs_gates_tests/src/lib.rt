@@ -21,5 +21,7 @@ mod seeds;
 mod steps;
 #[cfg(test)]
 mod sweeps;
+#[cfg(test)]
+mod turns;
 
 pub use jobs::{Job, both, one};

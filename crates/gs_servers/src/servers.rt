@@ -24,8 +24,8 @@ use std::marker::Brand;
 use std::net::{TcpListener, TcpStream};
 use std::random::RandomSource;
 use std::snapshot::Snapshot;
-use std::sync::Wait;
 use std::sync::ledger::Blank;
+use std::sync::{Mutex, Wait};
 use std::thread;
 use std::thread::{PromisedHandle, Threads};
 use std::time::Clock;
@@ -81,6 +81,7 @@ fn with_threads<
     limit: Option<u64>,
     gate: &G,
     store: &SharedStore<C, T, B>,
+    turn: &Mutex<()>,
     passes: Vec<Pass<C, T, B>>,
     last: Pass<C, T, B>,
 ) -> Option<(Vec<Pass<C, T, B>>, Pass<C, T, B>)>
@@ -114,7 +115,7 @@ fn with_threads<
                 let before = Snapshot::of(&pass);
                 let worker = scope
                     .spawn_with(Served { before, plan }, move || {
-                        work(rt, plan, store, gate, queue, own_notes, pass)
+                        work(rt, plan, store, gate, turn, queue, own_notes, pass)
                     })
                     .ok()?;
                 workers.push_reserved(worker);
@@ -198,6 +199,7 @@ fn run<
     let Some(last) = passes.pop() else {
         unreachable!()
     };
+    let turn = Mutex::new(());
     let Some((back, last)) = with_threads(
         rt,
         plan,
@@ -205,6 +207,7 @@ fn run<
         limit,
         gate,
         shared.store(),
+        &turn,
         passes,
         last,
     ) else {

@@ -11,13 +11,13 @@ use crate::states::State;
 use crate::ways::{Way, read_wait};
 use crossbeam_channel::Sender;
 use gs_door::Door;
-use gs_gates::{Failure, Gate, GateDoor, Note, NoteDoor, linger};
+use gs_gates::{Failure, Gate, GateDoor, Note, NoteDoor, TurnDoor, linger};
 use gs_session::ServeFault;
 use gs_shared::{Pass, PassDoor, Room, SharedStore};
 use std::io;
 use std::net::TcpStream;
-use std::sync::Wait;
 use std::sync::ledger::Ledger;
+use std::sync::{Mutex, Wait};
 use std::time::{Clock, Duration, Instant};
 
 /// Gives a connection its limits: a read of the system waits for a second at most, since others that wait
@@ -139,12 +139,13 @@ pub(crate) fn serve_streams<D: Door, G: Gate, R: Wait + Clock>(
     }
 }
 
-/// The whole run of a worker: its pass comes back.
+/// The whole run of a worker: its pass comes back. The turn is that of the long reads of all workers.
 pub fn work<C: Ledger, T: Ledger, B: Room, G: Gate, R: Wait + Clock>(
     rt: &R,
     plan: ServicePlan<'_>,
     store: &SharedStore<C, T, B>,
     gate: &G,
+    turn: &Mutex<()>,
     queue: Queue,
     notes: Sender<Note>,
     pass: Pass<C, T, B>,
@@ -159,7 +160,12 @@ pub fn work<C: Ledger, T: Ledger, B: Room, G: Gate, R: Wait + Clock>(
         door: GateDoor {
             gate,
             seat,
-            door: PassDoor::new(rt, store, pass),
+            door: TurnDoor {
+                rt,
+                turn,
+                is_reading: false,
+                door: PassDoor::new(rt, store, pass),
+            },
         },
     };
     serve_streams(rt, plan, seat, queue, gate, &mut door);
@@ -171,6 +177,12 @@ pub fn work<C: Ledger, T: Ledger, B: Room, G: Gate, R: Wait + Clock>(
     let GateDoor {
         gate: _,
         seat: _,
+        door,
+    } = door;
+    let TurnDoor {
+        rt: _,
+        turn: _,
+        is_reading: _,
         door,
     } = door;
     door.into_pass()
