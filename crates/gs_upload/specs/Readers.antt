@@ -13,18 +13,18 @@ use Rattle.gs_upload.specs.Readings.{IsFedReading, IsFedBy}
 
 -- what a whole text means to a reader
 abbrev pub meaning_of_text : TextReader → List ℕ → Meaning
-meaning_of_text (NTriples r) x = ntriples_meaning r.request x
-meaning_of_text (Turtle r) x = turtle_meaning (string_bytes r.base) r.request x
+meaning_of_text (NTriples r) x = ntriples_meaning r.value.request x
+meaning_of_text (Turtle r) x = turtle_meaning (string_bytes r.value.base) r.value.request x
 
 -- a text leads a new reader here, and to having given these triples
 abbrev pub LeadsText : TextReader → List ℕ → List RdfTriple → Type 0
-LeadsText (NTriples r) x ts = ntriples.LeadsToNTriples r x ts
-LeadsText (Turtle r) x ts = turtle.IsLedBy r x ts
+LeadsText (NTriples r) x ts = ntriples.LeadsToNTriples r.value x ts
+LeadsText (Turtle r) x ts = turtle.IsLedBy r.value x ts
 
 -- each call is refused from now on
 abbrev pub is_closed_text : TextReader → Bool
-is_closed_text (NTriples r) = r.is_closed
-is_closed_text (Turtle r) = r.is_closed
+is_closed_text (NTriples r) = r.value.is_closed
+is_closed_text (Turtle r) = r.value.is_closed
 
 -- Of a text that means what `means` says, x was fed to the reading, and ts were given.
 abbrev pub IsFedText : Reading TextReader → (List ℕ → Meaning) → List ℕ → List RdfTriple → Type 0

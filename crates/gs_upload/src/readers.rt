@@ -11,13 +11,14 @@ use gs_triple_lists::TripleList;
 use gs_turtle::TurtleReader;
 use std::alloc::{AllocError, Global};
 
-/// A reader of a body in one of the languages.
+/// A reader of a body in one of the languages. It stands in a box, since the value of a session, which has it,
+/// is moved at each step.
 #[derive(Drop)]
 pub enum TextReader {
     /// A reader of N-Triples.
-    NTriples(NTriplesReader),
+    NTriples(Box<NTriplesReader>),
     /// A reader of Turtle.
-    Turtle(TurtleReader),
+    Turtle(Box<TurtleReader>),
 }
 
 impl TextReader {
@@ -37,12 +38,14 @@ impl TextReader {
             → ⟦<TextReader as BodyReader>⟧.meaning_of r x ≡ meaning_in language base.now request x) }
     {
         match language {
-            Language::NTriples => Ok(TextReader::NTriples(NTriplesReader::seeded(
-                alloc, request, seed,
-            ))),
-            Language::Turtle => Ok(TextReader::Turtle(TurtleReader::seeded(
-                alloc, request, base, seed,
-            )?)),
+            Language::NTriples => {
+                let reader = NTriplesReader::seeded(alloc, request, seed);
+                Ok(TextReader::NTriples(Box::new(alloc, reader)?))
+            }
+            Language::Turtle => {
+                let reader = TurtleReader::seeded(alloc, request, base, seed)?;
+                Ok(TextReader::Turtle(Box::new(alloc, reader)?))
+            }
         }
     }
 }
