@@ -16,7 +16,11 @@ pub record IsGraphAt (terms : List Term) (p : Nodes) (root : Option ℕ) : Type 
   pub set : IsReadableAt (key_cmp terms) p root
   pub given : AllKeys (IsGiven terms) (keys_at p root)
 
--- among more terms a root stands for the same graph
-pub record IsKept (terms more : List Term) (p : Nodes) (root : Option ℕ) : Type 0 where
-  pub graph : IsGraphAt (terms ++ more) p root
-  pub same : graph_of_root (terms ++ more) p root ≡ graph_of_root terms p root
+-- among the later terms a root stands for the same graph
+pub record IsKeptAmong (terms later : List Term) (p : Nodes) (root : Option ℕ) : Type 0 where
+  pub graph : IsGraphAt later p root
+  pub same : graph_of_root later p root ≡ graph_of_root terms p root
+
+-- so it does among more terms
+abbrev pub IsKept : List Term → List Term → Nodes → Option ℕ → Type 0
+IsKept terms more p root = IsKeptAmong terms (terms ++ more) p root

@@ -1,5 +1,5 @@
 -- Keys as triples, and their order. Numbers are those of a dictionary, whose terms are a list.
-use Rattle.std.specs.Prelude.{ℕ, ◌<◌, List, [], length, slice_get}
+use Rattle.std.specs.Prelude.{◌≡◌, ℕ, ◌<◌, List, [], length, slice_get}
 use Rattle.std.specs.Option.{option_map, unwrap_or}
 use Rattle.std.specs.Ordering.{ordering_then, nat_cmp}
 use Rattle.std.specs.Cmp.{IsTotalOrder}
@@ -23,6 +23,12 @@ pub record IsGiven (terms : List Term) (k : Key) : Type 0 where
   pub subject : k.subject < length terms
   pub predicate : k.predicate < length terms
   pub object : k.object < length terms
+
+-- each of the key's numbers has the same term in both lists, or none in either
+pub record AgreeOn (terms later : List Term) (k : Key) : Type 0 where
+  pub subject : slice_get later k.subject ≡ slice_get terms k.subject
+  pub predicate : slice_get later k.predicate ≡ slice_get terms k.predicate
+  pub object : slice_get later k.object ≡ slice_get terms k.object
 
 -- the text of a number, which is empty where the number was not given
 abbrev pub text_at : List Term → ℕ → List ℕ

@@ -4,5 +4,8 @@
 mod laws;
 mod texts;
 
-pub use laws::{graph_outlasts_new_terms, set_outlasts_new_terms};
+pub use laws::{
+    graph_needs_only_its_terms, graph_outlasts_new_terms, set_needs_only_its_terms,
+    set_outlasts_new_terms,
+};
 pub use texts::ByText;
