@@ -1,6 +1,7 @@
 //! Tests of a store with its page: worked rows on a page of four entries and six triples, as how many
 //! triples long texts count, the entries of questions and reads of a graph and of the whole dataset and of
-//! writes on condition, and what a refused request for memory leaves.
+//! writes on condition, pages that are turned again and again, and what a refused request for memory
+//! leaves.
 #![tactic(auto)]
 
 #[cfg(test)]
@@ -17,5 +18,7 @@ mod scopes;
 mod sizes;
 #[cfg(test)]
 mod stores;
+#[cfg(test)]
+mod turns;
 #[cfg(test)]
 mod uploads;

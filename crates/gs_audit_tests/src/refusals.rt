@@ -156,12 +156,39 @@ fn wrong_list(alloc: Global, store: &mut Wide) -> Result<Option<&'static str>, R
     Ok(if are_stored { None } else { Some("the page") })
 }
 
+/// What is not as it must be where nine uploads of two triples turn a page of four entries twice.
+fn wrong_turn(alloc: Global, store: &mut Wide) -> Result<Option<&'static str>, Refusal> {
+    for _ in 0..9u32 {
+        drop(open(alloc, store)?);
+        if !matches!(stage(alloc, store, 2)?, Answer::Staged) {
+            return Ok(Some("a list"));
+        }
+        if !matches!(commit(store), Answer::Status(_, _, _)) {
+            return Ok(Some("a commit"));
+        }
+    }
+    let page = store.page();
+    let is_turned = page.number() == 2 && page.entries().len() == 1;
+    Ok(if is_turned { None } else { Some("the page") })
+}
+
 /// Whichever request was refused, the event that was answered so changed nothing, also in the page:
 /// made once more, it is answered as ever, and stored once.
 #[test]
 fn a_refused_event_changes_nothing(rt: HostRuntime) -> Result<(), Refusal> {
     let mut store = wide(rt.alloc())?;
     let wrong = wrong_part(rt.alloc(), &mut store);
+    drop(store);
+    assert_eq!(&rt; wrong?, None);
+    Ok(())
+}
+
+/// The same where a page is turned, with entries of the pages before: no turn wants memory, and no call is
+/// missing.
+#[test]
+fn a_refused_event_is_stored_once_where_pages_are_turned(rt: HostRuntime) -> Result<(), Refusal> {
+    let mut store = wide(rt.alloc())?;
+    let wrong = wrong_turn(rt.alloc(), &mut store);
     drop(store);
     assert_eq!(&rt; wrong?, None);
     Ok(())

@@ -186,6 +186,28 @@ fn wrong_row(alloc: Global, forms: Forms) -> Result<Option<&'static str>, Refusa
     Ok(None)
 }
 
+/// The name of the first row that is wrong where all are done in one store, twice. Each page is turned while
+/// uploads of the pages before are still there, which leave their blocks to those that come.
+fn wrong_row_together(alloc: Global, store: &mut Wide) -> Result<Option<&'static str>, Refusal> {
+    for row in ROWS.iter().chain(ROWS.iter()) {
+        if !is_right(alloc, store, row, Forms::All)? {
+            return Ok(Some(row.0));
+        }
+    }
+    Ok(None)
+}
+
+#[test]
+fn uploads_in_the_blocks_of_former_ones_are_stored_as_they_were_staged(
+    rt: HostRuntime,
+) -> Result<(), Refusal> {
+    let mut store = wide(rt.alloc())?;
+    let wrong = wrong_row_together(rt.alloc(), &mut store);
+    drop(store);
+    assert_eq!(&rt; wrong?, None);
+    Ok(())
+}
+
 #[test]
 fn lists_with_small_forms_are_stored_as_they_were_staged(rt: HostRuntime) -> Result<(), Refusal> {
     assert_eq!(&rt; wrong_row(rt.alloc(), Forms::All)?, None);

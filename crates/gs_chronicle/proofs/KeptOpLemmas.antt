@@ -1,5 +1,5 @@
 -- Forms of operations, of which the first ones have taken their patterns.
-use Rattle.std.proofs.Common.{◌≡◌, ℕ, zero, suc, ◌+◌, ◌<◌, List, [], ◌∷◌, length, map, set, get_or, Option, Some, None, refl, sym, ap, ◌∙◌, subst, arith}
+use Rattle.std.proofs.Common.{◌≡◌, ℕ, zero, suc, ◌+◌, ◌<◌, List, [], ◌∷◌, length, map, set, get_or, refl, sym, ap, ◌∙◌, subst, arith}
 use Rattle.gs_event.specs.declared.updates.Op.{Op}
 use Rattle.gs_chronicle.specs.declared.kept_ops.KeptOp.{KeptOp}
 use Rattle.gs_chronicle.specs.KeptOps.{kept_op, brings, kept_brings}

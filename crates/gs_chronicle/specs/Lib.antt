@@ -12,5 +12,6 @@ pub mod Kinds
 pub mod Requests
 pub mod Pages
 pub mod Rows
+pub mod PageEntries
 pub mod Views
 pub mod Replays

@@ -7,6 +7,7 @@ mod kept_ops;
 mod kinds;
 mod laws;
 mod open_uploads;
+mod page_entries;
 mod pages;
 mod patches;
 mod requests;

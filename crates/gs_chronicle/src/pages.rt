@@ -1,21 +1,23 @@
 //! Pages of history.
-ghost use Rattle.std.specs.Prelude.{◌≡◌, ◌<◌, ◌≤◌, [], vec_len, vec_capacity};
+ghost use Rattle.std.specs.Prelude.{◌≡◌, ◌<◌, ◌≤◌, length};
 ghost use Rattle.gs_chronicle.specs.Pages.{stored_in, AreNumbered};
+ghost use Rattle.gs_chronicle.specs.PageEntries.{own_entries, entry_room};
 ghost use Rattle.gs_chronicle.specs.Rows.{rows_of};
 
-use crate::entries::Entry;
+use crate::entries::{Entry, weight_of};
+use crate::page_entries::PageEntries;
 use crate::requests::Request;
 use gs_model::Refusal;
 use gs_small_triples::FormBlocks;
 use std::alloc::Global;
 
-/// Takes all entries out, and leaves their blocks.
-fn clear_entries(entries: &mut Vec<Entry>, blocks: &mut FormBlocks)
-    ensures entries { entries.new.items ≡ [] }
-    ensures capacity { vec_capacity entries.new ≡ vec_capacity entries.old }
-{
-    while let Some(entry) = entries.pop() {
-        entry.leave_to(blocks);
+/// After so many calls the spare blocks into which nothing was moved are given back. More would take long.
+const SPARE_CALLS: usize = 1_024;
+
+/// Gives spare blocks back, before every so many-th call of a page.
+fn clear_spare(spare: &mut FormBlocks, before: usize) {
+    if before % SPARE_CALLS == 0 {
+        spare.clear();
     }
 }
 
@@ -24,23 +26,24 @@ fn clear_entries(entries: &mut Vec<Entry>, blocks: &mut FormBlocks)
 #[derive(Debug, Drop)]
 pub struct Page<const ENTRIES: usize, const TRIPLES: usize> {
     number: u64,
-    entries: Vec<Entry>,
+    entries: PageEntries,
     /// As how many triples the entries count, with repeats.
     stored: usize,
-    /// Blocks of the entries of the page before.
+    /// Blocks of former entries.
     spare: FormBlocks,
     ghost some: { 0 < ENTRIES },
-    ghost few: { vec_len entries ≤ ENTRIES },
-    ghost room: { ENTRIES ≤ vec_capacity entries },
-    ghost counted: { stored ≡ stored_in (rows_of entries.items) },
+    ghost few: { length (own_entries entries) ≤ ENTRIES },
+    ghost room: { ENTRIES ≤ entry_room entries },
+    ghost counted: { stored ≡ stored_in (rows_of (own_entries entries)) },
     ghost small: { stored ≤ TRIPLES },
-    ghost numbered: { AreNumbered (rows_of entries.items) },
+    ghost numbered: { AreNumbered (rows_of (own_entries entries)) },
 }
 
 impl<const ENTRIES: usize, const TRIPLES: usize> Page<ENTRIES, TRIPLES> {
     ghost use Rattle.std.specs.Prelude.{◌≡◌, ◌+◌, ◌<◌, ◌≤◌, length, IfOk, IfErr, Some};
     ghost use Rattle.gs_chronicle.specs.Requests.{request_size, call_of};
     ghost use Rattle.gs_chronicle.specs.Pages.{stored_in, AreNumbered, fresh_page, turned, with_row, page_after};
+    ghost use Rattle.gs_chronicle.specs.PageEntries.{own_entries};
     ghost use Rattle.gs_chronicle.specs.Rows.{rows_of};
     ghost use Rattle.gs_chronicle.specs.Views.{page_of};
 
@@ -54,7 +57,7 @@ impl<const ENTRIES: usize, const TRIPLES: usize> Page<ENTRIES, TRIPLES> {
         ensures fresh { IfOk result (λ p. page_of p ≡ fresh_page) }
         ensures refused { IfErr result (λ refusal. refusal ≡ Refusal.NoMemory) }
     {
-        let Ok(entries) = Vec::with_capacity(alloc, ENTRIES) else {
+        let Ok(entries) = PageEntries::with_room(alloc, ENTRIES) else {
             return Err(Refusal::NoMemory);
         };
         Ok(Page {
@@ -82,20 +85,20 @@ impl<const ENTRIES: usize, const TRIPLES: usize> Page<ENTRIES, TRIPLES> {
         self.entries.as_slice()
     }
 
-    /// Clears the page, which gets the next number. The blocks of its entries are spare ones then; those of
-    /// the page before that nothing was moved into are given back.
+    /// Clears the page, which gets the next number. Its entries are former ones then, and are taken apart by
+    /// the calls that come.
     pub fn turn_page(&mut self)
         ensures { page_of self.new ≡ turned (page_of self.old) }
     {
-        self.spare.clear();
-        clear_entries(&mut self.entries, &mut self.spare);
+        self.entries.turn();
         self.stored = 0;
         self.number = self.number.saturating_add(1);
     }
 
     /// Stores a call that was decided. Where the page has no room for it, it is turned first; a call that
-    /// counts as more triples than a page holds is not stored, and turns the page. Takes no memory, but for
-    /// the list of spare blocks where the page is turned. What a short upload brought is copied into these.
+    /// counts as more triples than a page holds is not stored, and turns the page. Takes former entries apart
+    /// that weigh as much as the call, the one included in whose place it is stored. Takes no memory, but for
+    /// the list of spare blocks. What a short upload brought is copied into these.
     pub fn add(&mut self, seat: u16, mut request: Request, status: u16)
         ensures { page_of self.new
             ≡ page_after ENTRIES TRIPLES (page_of self.old) (call_of seat request status) }
@@ -108,20 +111,23 @@ impl<const ENTRIES: usize, const TRIPLES: usize> Page<ENTRIES, TRIPLES> {
         if self.entries.len() >= ENTRIES || triples > TRIPLES - self.stored {
             self.turn_page();
         }
+        clear_spare(&mut self.spare, self.entries.len());
+        let weight = weight_of(triples).saturating_sub(self.entries.next_weight());
+        self.entries.take_apart(weight, &mut self.spare);
         request.move_into(&mut self.spare);
         self.push(seat, request, status, triples);
     }
 
     /// Stores a call of so many triples, for which there is room.
     fn push(&mut self, seat: u16, request: Request, status: u16, triples: usize)
-        requires room { length (rows_of self.old.entries.items) < ENTRIES }
+        requires room { length (rows_of (own_entries self.old.entries)) < ENTRIES }
         requires size { triples ≡ request_size request }
         requires fits { self.old.stored + triples ≤ TRIPLES }
         ensures { page_of self.new ≡ with_row (page_of self.old) (call_of seat request status) }
     {
         let number = self.entries.len() as u64;
-        self.entries
-            .push_reserved(Entry::new(number, seat, request, status));
+        let entry = Entry::new(number, seat, request, status);
+        self.entries.push(entry, &mut self.spare);
         self.stored += triples;
     }
 }

@@ -1,4 +1,4 @@
-use Rattle.std.proofs.Common.{◌+◌, ap, sym, ◌∙◌, arith}
+use Rattle.std.proofs.Common.{◌+◌, ap, arith}
 use Rattle.std.specs.List.{sum_by}
 use Rattle.gs_chronicle.specs.Sizes.{stopped_count, triple_size}
 use Rattle.gs_chronicle.proofs.sizes.list_size.Goals as goal

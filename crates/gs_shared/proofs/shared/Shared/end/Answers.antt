@@ -2,6 +2,7 @@ use Rattle.std.proofs.Common.{◌≡◌, ◌-◌, ◌^◌, length, ap, ◌∙◌
 use Rattle.std.specs.List.{sum_by}
 use Rattle.gs_pass.specs.declared.records.Record.{Record}
 use Rattle.std.proofs.lemmas.List.{length-map}
+use Rattle.gs_chronicle.specs.PageEntries.{own_entries}
 use Rattle.gs_chronicle.specs.Rows.{row_of}
 use Rattle.gs_chronicle.specs.Views.{page_of}
 use Rattle.gs_shared.specs.Ends.{counted_calls, counted_triples}
@@ -27,7 +28,7 @@ returns-clause-turned g c = λ fit.
 pub returns-clause-within : goal.returns-clause-within
 returns-clause-within g c =
     let page = c.into_inner-audited.result.audited.chronicle in
-    (omega (arith, page.few, length-map page.entries.items row_of), omega (arith, page.counted, page.small))
+    (omega (arith, page.few, length-map (own_entries page.entries) row_of), omega (arith, page.counted, page.small))
 
 pub returns-clause-many : goal.returns-clause-many
 returns-clause-many g c = λ z.
@@ -39,7 +40,7 @@ returns-clause-many g c = λ z.
     let whole-calls = c.audit.ensures.calls (omega (arith, h.calls.0, s.call_parts, c.requires, s.whole_calls.whole)) in
     let rows = (d.counted.0 z).0 in
     let few = d.audited.chronicle.few in
-    let entries = length-map d.audited.chronicle.entries.items row_of in
+    let entries = length-map (own_entries d.audited.chronicle.entries) row_of in
     let amounts : sum_by (λ p. p.call_share.amount) ps ≡ length (page_of d.audited.chronicle).rows = omega (arith, rows, whole-calls, h.totals.0, h.calls.1, s.no_calls) in
     let calls = counts_below (λ p. p.record.calls) (λ p. p.call_share.amount) (2 ^ 64 - 1) ps (λ p. p.counts_calls) (omega (arith, few, entries, amounts)) in
     omega (arith, amounts, calls, calls-are)
