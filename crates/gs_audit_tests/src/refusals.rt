@@ -183,8 +183,8 @@ fn a_refused_event_changes_nothing(rt: HostRuntime) -> Result<(), Refusal> {
     Ok(())
 }
 
-/// The same where a page is turned, with entries of the pages before: no turn wants memory, and no call is
-/// missing.
+/// The same where pages are turned while entries of the pages before are there: no turn wants memory, and
+/// no call is missing.
 #[test]
 fn a_refused_event_is_stored_once_where_pages_are_turned(rt: HostRuntime) -> Result<(), Refusal> {
     let mut store = wide(rt.alloc())?;

@@ -56,7 +56,7 @@ fn is_entry(alloc: Global, entry: &Entry, step: u8) -> Result<bool, Refusal> {
     }
 }
 
-/// Whether a page has just the entries of these steps, numbered from 0.
+/// Whether a page has exactly the entries of these steps, numbered from 0.
 fn has_entries(alloc: Global, store: &Small, steps: &[u8]) -> Result<bool, Refusal> {
     let entries = store.page().entries();
     if entries.len() != steps.len() {

@@ -11,10 +11,11 @@ use gs_model::Refusal;
 use gs_small_triples::FormBlocks;
 use std::alloc::Global;
 
-/// After so many calls the spare blocks into which nothing was moved are given back. More would take long.
+/// After so many calls the spare blocks into which nothing was moved are given back. Those of more calls
+/// would take long to give back at once.
 const SPARE_CALLS: usize = 1_024;
 
-/// Gives spare blocks back, before every so many-th call of a page.
+/// Gives spare blocks back before the first call of a page, and again after each so many.
 fn clear_spare(spare: &mut FormBlocks, before: usize) {
     if before % SPARE_CALLS == 0 {
         spare.clear();
@@ -98,7 +99,7 @@ impl<const ENTRIES: usize, const TRIPLES: usize> Page<ENTRIES, TRIPLES> {
     /// Stores a call that was decided. Where the page has no room for it, it is turned first; a call that
     /// counts as more triples than a page holds is not stored, and turns the page. Takes former entries apart
     /// that weigh as much as the call, the one included in whose place it is stored. Takes no memory, but for
-    /// the list of spare blocks. What a short upload brought is copied into these.
+    /// the list of spare blocks. What a short upload or patch brought is copied into these.
     pub fn add(&mut self, seat: u16, mut request: Request, status: u16)
         ensures { page_of self.new
             ≡ page_after ENTRIES TRIPLES (page_of self.old) (call_of seat request status) }

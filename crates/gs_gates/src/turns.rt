@@ -9,12 +9,12 @@ fn is_piece(event: &Event) -> bool {
 }
 
 /// A door before which long reads take turns: a piece that follows a piece waits for the turn, which all
-/// workers share, before it waits for the store's lock. So of all long reads at most one waits for that
-/// lock, and a write meets one of them there, however many there are. A read's first piece takes no turn,
-/// and no other event does.
+/// workers share, before it waits for the store's lock. So of all reads that are past their first piece at
+/// most one waits for that lock or holds it, however many there are, and a write meets no more than that
+/// one. A read's first piece takes no turn, and no other event does.
 pub struct TurnDoor<'a, D: Door, R: Wait> {
     pub rt: &'a R,
-    /// It holds nothing, and is held while the door takes an event.
+    /// It guards no value. It is held while the door takes a piece that follows a piece.
     pub turn: &'a Mutex<()>,
     /// Whether the last event asked for a piece.
     pub is_reading: bool,

@@ -5,9 +5,9 @@ use crossbeam_channel::{Receiver, Sender, bounded};
 use gs_core::Store;
 use gs_door::Door;
 use gs_event::{Answer, Event};
-use gs_gates::{GateDoor, Note, NoteDoor, OpenGate};
+use gs_gates::{GateDoor, Note, NoteDoor, OpenGate, TurnDoor};
 use std::alloc::Global;
-use std::sync::Wait;
+use std::sync::{Mutex, Wait};
 use std::test::Fail;
 
 /// A store with a seed.
@@ -30,7 +30,7 @@ impl Door for Seeded {
 }
 
 /// Lets the doors go.
-fn let_go<R: Wait>(noted: NoteDoor<'_, GateDoor<'_, OpenGate, Seeded>, R>) {
+fn let_go<R: Wait>(noted: NoteDoor<'_, GateDoor<'_, OpenGate, TurnDoor<'_, Seeded, R>>, R>) {
     let NoteDoor {
         rt: _,
         notes,
@@ -39,40 +39,54 @@ fn let_go<R: Wait>(noted: NoteDoor<'_, GateDoor<'_, OpenGate, Seeded>, R>) {
     let GateDoor {
         gate: _,
         seat: _,
-        door,
+        door: turned,
     } = gated;
+    let TurnDoor {
+        rt: _,
+        turn: _,
+        is_reading: _,
+        door,
+    } = turned;
     drop(notes);
     drop(door);
 }
 
 /// The seeds of a store, of one with this seed, and of the doors before that one.
-fn seeds<R: Wait>(rt: &R, alloc: Global, seed: u64) -> Option<[u64; 4]> {
+fn seeds<R: Wait>(rt: &R, alloc: Global, seed: u64) -> Option<[u64; 5]> {
     let store = Store::new(alloc, 1, "http://localhost").ok()?;
     let first = store.seed();
     let (to_reclaimer, notes): (Sender<Note>, Receiver<Note>) = bounded(alloc, 1).ok()?;
     let seeded = Seeded { store, seed };
     let second = seeded.seed();
+    let turn = Mutex::new(());
+    let turned = TurnDoor {
+        rt,
+        turn: &turn,
+        is_reading: false,
+        door: seeded,
+    };
+    let third = turned.seed();
     let gate = OpenGate;
     let gated = GateDoor {
         gate: &gate,
         seat: 0,
-        door: seeded,
+        door: turned,
     };
-    let third = gated.seed();
+    let fourth = gated.seed();
     let noted = NoteDoor {
         rt,
         notes: to_reclaimer,
         door: gated,
     };
-    let fourth = noted.seed();
+    let fifth = noted.seed();
     let_go(noted);
     drop(notes);
-    Some([first, second, third, fourth])
+    Some([first, second, third, fourth, fifth])
 }
 
 #[test]
 fn a_door_has_the_seed_of_the_one_behind_it(rt: HostRuntime) -> Result<(), Fail> {
-    assert_eq!(rt; seeds(&rt, rt.alloc(), 7), Some([0, 7, 7, 7]));
-    assert_eq!(rt; seeds(&rt, rt.alloc(), 11), Some([0, 11, 11, 11]));
+    assert_eq!(rt; seeds(&rt, rt.alloc(), 7), Some([0, 7, 7, 7, 7]));
+    assert_eq!(rt; seeds(&rt, rt.alloc(), 11), Some([0, 11, 11, 11, 11]));
     Ok(())
 }

@@ -17,7 +17,8 @@ pub fn graph_needs_only_its_terms()
         → IsKeptAmong terms later p root }
 {}
 
-/// A set of keys stays one there, and numbers that were given still are.
+/// A set of keys stays one where each number of its keys has the same term, and numbers that were given
+/// still are.
 pub fn set_needs_only_its_terms()
     ensures set { (terms later : List Term) (p : Nodes) (root : Option ℕ)
         → IsSetAt (key_cmp terms) p root → AllKeys (AgreeOn terms later) (keys_at p root)

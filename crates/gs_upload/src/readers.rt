@@ -11,8 +11,8 @@ use gs_triple_lists::TripleList;
 use gs_turtle::TurtleReader;
 use std::alloc::{AllocError, Global};
 
-/// A reader of a body in one of the languages. It stands in a box, since the value of a session, which has it,
-/// is moved at each step.
+/// A reader of a body in one of the languages. It stands in a box, so that a session, whose value is moved at
+/// each step, stays small.
 #[derive(Drop)]
 pub enum TextReader {
     /// A reader of N-Triples.
