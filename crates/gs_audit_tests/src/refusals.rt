@@ -156,11 +156,11 @@ fn wrong_list(alloc: Global, store: &mut Wide) -> Result<Option<&'static str>, R
     Ok(if are_stored { None } else { Some("the page") })
 }
 
-/// What is not as it must be where nine uploads of two triples turn a page of four entries twice.
+/// What is not as it must be where nine uploads of 22 triples turn a page of four entries twice.
 fn wrong_turn(alloc: Global, store: &mut Wide) -> Result<Option<&'static str>, Refusal> {
     for _ in 0..9u32 {
         drop(open(alloc, store)?);
-        if !matches!(stage(alloc, store, 2)?, Answer::Staged) {
+        if !matches!(stage(alloc, store, 22)?, Answer::Staged) {
             return Ok(Some("a list"));
         }
         if !matches!(commit(store), Answer::Status(_, _, _)) {

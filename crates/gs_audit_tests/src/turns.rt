@@ -8,28 +8,40 @@ use gs_term::Target;
 use std::alloc::Global;
 
 /// A name; what a new store is asked, `H` for a Head, and a digit for a PUT of so many triples; the number of
-/// the page then, and the calls that stand in it.
-type Row = (&'static str, &'static [u8], u64, &'static [u8]);
+/// the page then, the calls that stand in it, and how many entries there are with those of the pages before.
+type Row = (&'static str, &'static [u8], u64, &'static [u8], usize);
 
-/// A page has four entries and six triples, so 7 turns it and is not stored.
-const ROWS: [Row; 12] = [
-    ("four Heads", b"HHHH", 0, b"HHHH"),
-    ("a fifth", b"HHHHH", 1, b"H"),
-    ("two PUTs after four Heads", b"HHHH42", 1, b"42"),
-    ("two PUTs of too many", b"HHHH43", 2, b"3"),
-    ("a page without entries", b"HHHH7", 1, b""),
-    ("a Head after it", b"HHHH7H", 1, b"H"),
-    ("two pages without entries", b"HHHH77", 2, b""),
-    ("three calls after them", b"HHHH77H4H", 2, b"H4H"),
-    ("Heads among PUTs", b"1111H7H", 2, b"H"),
+/// A page has four entries and six triples, so 7 turns it and is not stored. With those of the pages before
+/// there are no more entries and triples than that.
+const ROWS: [Row; 16] = [
+    ("four Heads", b"HHHH", 0, b"HHHH", 4),
+    ("a fifth", b"HHHHH", 1, b"H", 4),
+    ("two PUTs after four Heads", b"HHHH42", 1, b"42", 4),
+    ("two PUTs of too many", b"HHHH43", 2, b"3", 4),
+    ("a page without entries", b"HHHH7", 1, b"", 4),
+    ("a Head after it", b"HHHH7H", 1, b"H", 4),
+    ("two pages without entries", b"HHHH77", 2, b"", 4),
+    ("three calls after them", b"HHHH77H4H", 2, b"H4H", 4),
+    ("Heads among PUTs", b"1111H7H", 2, b"H", 4),
     (
         "a full page after one that is turned early",
         b"11117222H",
         1,
         b"222H",
+        4,
     ),
-    ("a page turned for its triples", b"111172222", 2, b"2"),
-    ("a page turned for its entries", b"6H7H6HHH", 2, b"H"),
+    ("a page turned for its triples", b"111172222", 2, b"2", 3),
+    ("a page turned for its entries", b"6H7H6HHH", 2, b"H", 4),
+    ("a PUT in the place of a PUT", b"H47H3", 1, b"H3", 2),
+    ("a PUT that takes one apart behind it", b"H473", 1, b"3", 1),
+    ("a PUT before a Head that stays", b"4H75", 1, b"5", 2),
+    (
+        "a PUT that takes the next place apart",
+        b"22276",
+        1,
+        b"6",
+        1,
+    ),
 ];
 
 /// Asks what a step says: a Head by the second seat, or a PUT by the first.
@@ -71,12 +83,20 @@ fn has_entries(alloc: Global, store: &Small, steps: &[u8]) -> Result<bool, Refus
     Ok(true)
 }
 
+/// How many entries there are, with those of the pages before, which a page shows for debugging alone.
+fn entries_there(alloc: Global, store: &Small) -> Result<usize, Refusal> {
+    let page = store.page();
+    let text = format!(in alloc; "{page:?}")?;
+    Ok(text.as_str().matches("Entry {").count())
+}
+
 /// Whether a row leaves its page, in a store that is lent.
 fn is_left(alloc: Global, store: &mut Small, row: &Row) -> Result<bool, Refusal> {
     for step in row.1 {
         take_step(alloc, store, *step)?;
     }
-    Ok(store.page().number() == row.2 && has_entries(alloc, store, row.3)?)
+    let is_shown = store.page().number() == row.2 && has_entries(alloc, store, row.3)?;
+    Ok(is_shown && entries_there(alloc, store)? == row.4)
 }
 
 /// Whether a row leaves its page.

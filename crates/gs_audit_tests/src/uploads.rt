@@ -155,7 +155,7 @@ fn is_kept_by(alloc: Global, store: &Wide, kept: [usize; 2]) -> Result<bool, Ref
     Ok([small, gathered] == kept)
 }
 
-/// Whether the upload of a row is stored as it was staged, in a new store that is lent, and where all lists
+/// Whether the upload of a row is stored as it was staged, in a store that is lent, and where all lists
 /// have their small forms is kept as the row says.
 fn is_right(alloc: Global, store: &mut Wide, row: &Row, forms: Forms) -> Result<bool, Refusal> {
     let kind = UploadKind::Put(cats(alloc)?);
@@ -186,8 +186,8 @@ fn wrong_row(alloc: Global, forms: Forms) -> Result<Option<&'static str>, Refusa
     Ok(None)
 }
 
-/// The name of the first row that is wrong where all are done in one store, twice. Each page is turned while
-/// uploads of the pages before are still there, which leave their blocks to those that come.
+/// The name of the first row that is wrong where all are done in one store, twice. Each page after the
+/// first takes the places of uploads of the page before, and uses their blocks.
 fn wrong_row_together(alloc: Global, store: &mut Wide) -> Result<Option<&'static str>, Refusal> {
     for row in ROWS.iter().chain(ROWS.iter()) {
         if !is_right(alloc, store, row, Forms::All)? {

@@ -6,15 +6,6 @@ ghost use Rattle.gs_chronicle.specs.Rows.{row_of, entry_request};
 use crate::requests::Request;
 use gs_small_triples::FormBlocks;
 
-/// As many triples as an entry weighs beside those as which it counts. A triple has at most 32 bytes of texts
-/// for each that it counts, and the name of a graph at most 2,048.
-const OWN_WEIGHT: usize = 64;
-
-/// How much an entry weighs that counts as so many triples, in triples of at most 32 bytes.
-pub(crate) fn weight_of(triples: usize) -> usize {
-    triples.saturating_add(OWN_WEIGHT)
-}
-
 /// A call that a store decided, under its number in the page.
 #[derive(Debug, Drop)]
 pub struct Entry {
@@ -37,9 +28,9 @@ impl Entry {
         }
     }
 
-    /// How much it weighs, in triples of at most 32 bytes.
-    pub(crate) fn weight(&self) -> usize {
-        weight_of(self.request.triples())
+    /// As how many triples it counts.
+    pub(crate) fn triples(&self) -> usize {
+        self.request.triples()
     }
 
     /// Leaves the blocks of an entry that is of no more use.

@@ -13,6 +13,8 @@ pub struct PageEntries {
     all: Vec<Entry>,
     /// How many of them are those of the page.
     count: usize,
+    /// As how many triples all of them count.
+    held: usize,
     ghost there: { count ≤ vec_len all },
 }
 
@@ -26,7 +28,11 @@ impl PageEntries {
         ensures room { IfOk result (λ e. room ≤ entry_room e) }
     {
         let all = Vec::with_capacity(alloc, room)?;
-        Ok(PageEntries { all, count: 0 })
+        Ok(PageEntries {
+            all,
+            count: 0,
+            held: 0,
+        })
     }
 
     /// How many entries the page has.
@@ -43,12 +49,15 @@ impl PageEntries {
         &self.all[..self.count]
     }
 
-    /// How much the former entry weighs in whose place the next one will stand, 0 where there is none.
-    pub fn next_weight(&self) -> usize {
-        match self.all.get(self.count) {
-            Some(former) => former.weight(),
+    /// Whether all entries would count as more than so many triples once there is one more that counts as
+    /// `triples`, in the place of a former one, if there is one left.
+    fn would_exceed(&self, triples: usize, most: usize) -> bool {
+        let replaced = match self.all.get(self.count) {
+            Some(former) => former.triples(),
             None => 0,
-        }
+        };
+        let kept = self.held.saturating_sub(replaced);
+        kept.saturating_add(triples) > most
     }
 
     /// Adds an entry to the page, in the place of a former one, if there is one left, which leaves its blocks.
@@ -58,8 +67,11 @@ impl PageEntries {
         ensures room { entry_room self.new ≡ entry_room self.old }
     {
         let place = self.count;
+        self.held = self.held.saturating_add(entry.triples());
         if place < self.all.len() {
-            mem::replace(&mut self.all[place], entry).leave_to(blocks);
+            let former = mem::replace(&mut self.all[place], entry);
+            self.held = self.held.saturating_sub(former.triples());
+            former.leave_to(blocks);
         } else {
             self.all.push_reserved(entry);
         }
@@ -72,25 +84,25 @@ impl PageEntries {
         ensures room { entry_room self.new ≡ entry_room self.old }
         ensures fewer { IfSome result (λ _. entries_there self.new < entries_there self.old) }
     {
-        if self.all.len() > self.count {
-            self.all.pop()
-        } else {
-            None
+        if self.all.len() <= self.count {
+            return None;
         }
+        let former = self.all.pop()?;
+        self.held = self.held.saturating_sub(former.triples());
+        Some(former)
     }
 
-    /// Takes former entries apart until these weigh so much, if there are as many, and leaves their blocks.
-    pub fn take_apart(&mut self, weight: usize, blocks: &mut FormBlocks)
+    /// Takes former entries apart, and leaves their blocks, until one more entry that counts as `triples`
+    /// may come, and all count as `most` then, or no former one is left.
+    pub fn take_apart(&mut self, triples: usize, most: usize, blocks: &mut FormBlocks)
         ensures own { own_entries self.new ≡ own_entries self.old }
         ensures room { entry_room self.new ≡ entry_room self.old }
     {
-        let mut left = weight;
-        while left > 0 {
-            let Some(entry) = self.pop_former() else {
+        'former: while self.would_exceed(triples, most) {
+            let Some(former) = self.pop_former() else {
                 return;
             };
-            left = left.saturating_sub(entry.weight());
-            entry.leave_to(blocks);
+            former.leave_to(blocks);
         }
     }
 

@@ -4,7 +4,7 @@ ghost use Rattle.gs_chronicle.specs.Pages.{stored_in, AreNumbered};
 ghost use Rattle.gs_chronicle.specs.PageEntries.{own_entries, entry_room};
 ghost use Rattle.gs_chronicle.specs.Rows.{rows_of};
 
-use crate::entries::{Entry, weight_of};
+use crate::entries::Entry;
 use crate::page_entries::PageEntries;
 use crate::requests::Request;
 use gs_model::Refusal;
@@ -97,9 +97,10 @@ impl<const ENTRIES: usize, const TRIPLES: usize> Page<ENTRIES, TRIPLES> {
     }
 
     /// Stores a call that was decided. Where the page has no room for it, it is turned first; a call that
-    /// counts as more triples than a page holds is not stored, and turns the page. Takes former entries apart
-    /// that weigh as much as the call, the one included in whose place it is stored. Takes no memory, but for
-    /// the list of spare blocks. What a short upload or patch brought is copied into these.
+    /// counts as more triples than a page holds is not stored, and turns the page. A former entry gives its
+    /// place, and more are taken apart until all that are there count as no more triples than a page may
+    /// have. Takes no memory, but for the list of spare blocks. What a short upload or patch brought is copied
+    /// into these.
     pub fn add(&mut self, seat: u16, mut request: Request, status: u16)
         ensures { page_of self.new
             ≡ page_after ENTRIES TRIPLES (page_of self.old) (call_of seat request status) }
@@ -113,8 +114,7 @@ impl<const ENTRIES: usize, const TRIPLES: usize> Page<ENTRIES, TRIPLES> {
             self.turn_page();
         }
         clear_spare(&mut self.spare, self.entries.len());
-        let weight = weight_of(triples).saturating_sub(self.entries.next_weight());
-        self.entries.take_apart(weight, &mut self.spare);
+        self.entries.take_apart(triples, TRIPLES, &mut self.spare);
         request.move_into(&mut self.spare);
         self.push(seat, request, status, triples);
     }
