@@ -84,10 +84,10 @@ linked_more n es fs heads h some same next =
 
 -- along a chain, from a number of another hash or text to the one after it
 pub along_more :
-    (arena : List ℕ) (es : List Entry) (heads : List ℕ) (hash : ℕ) (x : List ℕ) (link : ℕ) → IsLinked (length es) es heads
-    → IsAlong arena es (length heads) hash x link → 0 < link → (EntryHas arena es (link - 1) hash x → ⊥)
-    → IsAlong arena es (length heads) hash x (link_after es (link - 1))
-along_more arena es heads hash x link linked along some other =
+    (blocks : List (List ℕ)) (es : List Entry) (heads : List ℕ) (hash : ℕ) (x : List ℕ) (link : ℕ) → IsLinked (length es) es heads
+    → IsAlong blocks es (length heads) hash x link → 0 < link → (EntryHas blocks es (link - 1) hash x → ⊥)
+    → IsAlong blocks es (length heads) hash x (link_after es (link - 1))
+along_more blocks es heads hash x link linked along some other =
     let i : ℕ = link - 1 in
     let inside : i < length es = omega (arith, along.given) in
     let here : bucket_at (length heads) es i ≡ bucket_of (length heads) hash = along.there some in
@@ -97,7 +97,7 @@ along_more arena es heads hash x link linked along some other =
       passed = λ j within past has. elim (cases_lt i j) [
         | inl above ↦ along.passed j within (omega arith) has
         | inr below ↦ elim (cases_eq j i) [
-          | inl e ↦ let P : ℕ → Type 0 = λ k. EntryHas arena es k hash x in other (subst P e has)
+          | inl e ↦ let P : ℕ → Type 0 = λ k. EntryHas blocks es k hash x in other (subst P e has)
           | inr ne ↦
               let fall : j < i = omega arith in
               let alike : bucket_at (length heads) es j ≡ bucket_at (length heads) es i = ap (bucket_of (length heads)) has.0 ∙ sym here in

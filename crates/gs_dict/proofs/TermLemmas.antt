@@ -13,112 +13,112 @@ use Rattle.std.proofs.lemmas.Bool.Decides.{nat_tests}
 use Rattle.std.specs.Bool.{Decides}
 use Rattle.gs_model.proofs.TextLemmas.{term_of-text_of, text_of-injective}
 use Rattle.gs_dict.specs.declared.chains.Entry.{Entry}
-use Rattle.gs_dict.specs.Chains.{IsTable, AreEnough, EntryHas, Meets, KeepsTexts, dict_entry_at, text_at, start_at}
+use Rattle.gs_dict.specs.Chains.{IsTable, AreEnough, EntryHas, Meets, KeepsTexts, dict_entry_at, text_at}
 use Rattle.gs_dict.specs.Numbering.{Numbered, IsNumberOf, IsNew, IsDistinct, GivesNextNumber}
 use Rattle.gs_dict.specs.Kept.{IsDict, hash_of, term_of_entry, terms_of}
 
 -- what a dictionary of these parts shows
-abbrev pub shown : List ℕ → List Entry → ℕ → Numbered
-shown arena es last = record { terms = terms_of arena es; last = last }
+abbrev pub shown : List (List ℕ) → List Entry → ℕ → Numbered
+shown blocks es last = record { terms = terms_of blocks es; last = last }
 
 -- as many terms as entries
-pub length-terms_of : (arena : List ℕ) (es : List Entry) → length (terms_of arena es) ≡ length es
+pub length-terms_of : (blocks : List (List ℕ)) (es : List Entry) → length (terms_of blocks es) ≡ length es
 unfolding terms_of
-length-terms_of arena es = length-map-range_with_len (term_of_entry arena es) 0 (length es)
+length-terms_of blocks es = length-map-range_with_len (term_of_entry blocks es) 0 (length es)
 
 -- the term of a number is that of its text
-pub get-terms_of : (arena : List ℕ) (es : List Entry) (i : ℕ) → i < length es → slice_get (terms_of arena es) i ≡ Some (term_of_entry arena es i)
+pub get-terms_of : (blocks : List (List ℕ)) (es : List Entry) (i : ℕ) → i < length es → slice_get (terms_of blocks es) i ≡ Some (term_of_entry blocks es i)
 unfolding terms_of
-get-terms_of arena es i inside =
-    let within : i < length (terms_of arena es) = omega (arith, length-terms_of arena es) in
+get-terms_of blocks es i inside =
+    let within : i < length (terms_of blocks es) = omega (arith, length-terms_of blocks es) in
     let same : 0 + i ≡ i = omega arith in
-    slice_get-get_or (terms_of arena es) i (Iri []) within
-    ∙ ap (λ (t : Term). Some t) (get_or-map-range_with_len (term_of_entry arena es) 0 (length es) i i (Iri []) inside same)
+    slice_get-get_or (terms_of blocks es) i (Iri []) within
+    ∙ ap (λ (t : Term). Some t) (get_or-map-range_with_len (term_of_entry blocks es) 0 (length es) i i (Iri []) inside same)
 
-pub number_inside : (arena : List ℕ) (es : List Entry) (i : ℕ) (t : Term) → IsNumberOf (terms_of arena es) i t → i < length es
-number_inside arena es i t number = omega (arith, slice_get_within (terms_of arena es) i t number, length-terms_of arena es)
+pub number_inside : (blocks : List (List ℕ)) (es : List Entry) (i : ℕ) (t : Term) → IsNumberOf (terms_of blocks es) i t → i < length es
+number_inside blocks es i t number = omega (arith, slice_get_within (terms_of blocks es) i t number, length-terms_of blocks es)
 
 -- a number's text is its term's
 pub number_text :
-    (arena : List ℕ) (es : List Entry) (heads : List ℕ) (s : FoldHasher) (last i : ℕ) (t : Term) → IsDict arena es heads s last
-    → IsNumberOf (terms_of arena es) i t → text_at arena es i ≡ text_of t
-number_text arena es heads s last i t d number =
-    let inside : i < length es = number_inside arena es i t number in
-    let same : term_of_entry arena es i ≡ t = same_Some (term_of_entry arena es i) t (sym (get-terms_of arena es i inside) ∙ number) in
+    (blocks : List (List ℕ)) (es : List Entry) (heads : List ℕ) (s : FoldHasher) (last i : ℕ) (t : Term) → IsDict blocks es heads s last
+    → IsNumberOf (terms_of blocks es) i t → text_at blocks es i ≡ text_of t
+number_text blocks es heads s last i t d number =
+    let inside : i < length es = number_inside blocks es i t number in
+    let same : term_of_entry blocks es i ≡ t = same_Some (term_of_entry blocks es i) t (sym (get-terms_of blocks es i inside) ∙ number) in
     sym (d.canonical i inside).canonical ∙ ap text_of same
 
 pub text_number :
-    (arena : List ℕ) (es : List Entry) (i : ℕ) (t : Term) → i < length es → text_at arena es i ≡ text_of t → IsNumberOf (terms_of arena es) i t
-text_number arena es i t inside same =
-    get-terms_of arena es i inside ∙ ap (λ (u : Term). Some u) (ap term_of same ∙ term_of-text_of t)
+    (blocks : List (List ℕ)) (es : List Entry) (i : ℕ) (t : Term) → i < length es → text_at blocks es i ≡ text_of t → IsNumberOf (terms_of blocks es) i t
+text_number blocks es i t inside same =
+    get-terms_of blocks es i inside ∙ ap (λ (u : Term). Some u) (ap term_of same ∙ term_of-text_of t)
 
 -- the text and the term of a number that was given
 pub given_text :
-    (arena : List ℕ) (es : List Entry) (heads : List ℕ) (s : FoldHasher) (last i : ℕ) → IsDict arena es heads s last → i < length es
-    → option_map text_of (slice_get (terms_of arena es) i) ≡ Some (text_at arena es i)
-given_text arena es heads s last i d inside =
-    ap (option_map text_of) (get-terms_of arena es i inside) ∙ ap (λ (x : List ℕ). Some x) (d.canonical i inside).canonical
+    (blocks : List (List ℕ)) (es : List Entry) (heads : List ℕ) (s : FoldHasher) (last i : ℕ) → IsDict blocks es heads s last → i < length es
+    → option_map text_of (slice_get (terms_of blocks es) i) ≡ Some (text_at blocks es i)
+given_text blocks es heads s last i d inside =
+    ap (option_map text_of) (get-terms_of blocks es i inside) ∙ ap (λ (x : List ℕ). Some x) (d.canonical i inside).canonical
 
 pub number_valid :
-    (arena : List ℕ) (es : List Entry) (heads : List ℕ) (s : FoldHasher) (last i : ℕ) (t : Term) → IsDict arena es heads s last
-    → IsNumberOf (terms_of arena es) i t → IsTerm t
-number_valid arena es heads s last i t d number =
-    let inside : i < length es = number_inside arena es i t number in
+    (blocks : List (List ℕ)) (es : List Entry) (heads : List ℕ) (s : FoldHasher) (last i : ℕ) (t : Term) → IsDict blocks es heads s last
+    → IsNumberOf (terms_of blocks es) i t → IsTerm t
+number_valid blocks es heads s last i t d number =
+    let inside : i < length es = number_inside blocks es i t number in
     let P : Term → Type 0 = λ u. IsTerm u in
-    subst P (same_Some (term_of_entry arena es i) t (sym (get-terms_of arena es i inside) ∙ number)) (d.canonical i inside).valid
+    subst P (same_Some (term_of_entry blocks es i) t (sym (get-terms_of blocks es i inside) ∙ number)) (d.canonical i inside).valid
 
 -- no term has two numbers
 pub terms_distinct :
-    (arena : List ℕ) (es : List Entry) (heads : List ℕ) (s : FoldHasher) (last : ℕ) → IsDict arena es heads s last → IsDistinct (terms_of arena es)
-terms_distinct arena es heads s last d m n t at_m at_n =
-    d.apart m n (number_inside arena es m t at_m) (number_inside arena es n t at_n)
-    (number_text arena es heads s last m t d at_m ∙ sym (number_text arena es heads s last n t d at_n))
+    (blocks : List (List ℕ)) (es : List Entry) (heads : List ℕ) (s : FoldHasher) (last : ℕ) → IsDict blocks es heads s last → IsDistinct (terms_of blocks es)
+terms_distinct blocks es heads s last d m n t at_m at_n =
+    d.apart m n (number_inside blocks es m t at_m) (number_inside blocks es n t at_n)
+    (number_text blocks es heads s last m t d at_m ∙ sym (number_text blocks es heads s last n t d at_n))
 
 -- there are no more terms than numbers
 pub terms_fit :
-    (arena : List ℕ) (es : List Entry) (heads : List ℕ) (s : FoldHasher) (last : ℕ) → IsDict arena es heads s last
-    → length (terms_of arena es) ≤ last + 1
-terms_fit arena es heads s last d = omega (arith, length-terms_of arena es, d.few)
+    (blocks : List (List ℕ)) (es : List Entry) (heads : List ℕ) (s : FoldHasher) (last : ℕ) → IsDict blocks es heads s last
+    → length (terms_of blocks es) ≤ last + 1
+terms_fit blocks es heads s last d = omega (arith, length-terms_of blocks es, d.few)
 
 -- a term whose text is not along the chain of its hash is new
 pub new_term :
-    (arena : List ℕ) (es : List Entry) (heads : List ℕ) (s : FoldHasher) (last : ℕ) (t : Term) → IsDict arena es heads s last
-    → Meets arena es (hash_of s (text_of t)) (text_of t) None → IsNew (terms_of arena es) t
-new_term arena es heads s last t d none n number =
-    let inside : n < length es = number_inside arena es n t number in
-    let same : text_at arena es n ≡ text_of t = number_text arena es heads s last n t d number in
+    (blocks : List (List ℕ)) (es : List Entry) (heads : List ℕ) (s : FoldHasher) (last : ℕ) (t : Term) → IsDict blocks es heads s last
+    → Meets blocks es (hash_of s (text_of t)) (text_of t) None → IsNew (terms_of blocks es) t
+new_term blocks es heads s last t d none n number =
+    let inside : n < length es = number_inside blocks es n t number in
+    let same : text_at blocks es n ≡ text_of t = number_text blocks es heads s last n t d number in
     none n inside (d.hashed n inside ∙ ap (hash_of s) same, same)
 
 -- each term that was there keeps its number
 below_same :
-    (arena later : List ℕ) (es fs : List Entry) → KeepsTexts arena es later fs
-    → map (term_of_entry arena es) (range_with_len 0 (length es)) ≡ map (term_of_entry later fs) (range_with_len 0 (length es))
-below_same arena later es fs kept =
-    fill_by_all (term_of_entry later fs) (map (term_of_entry arena es) (range_with_len 0 (length es))) (length es) (Iri [])
-    (length-map-range_with_len (term_of_entry arena es) 0 (length es))
+    (blocks later : List (List ℕ)) (es fs : List Entry) → KeepsTexts blocks es later fs
+    → map (term_of_entry blocks es) (range_with_len 0 (length es)) ≡ map (term_of_entry later fs) (range_with_len 0 (length es))
+below_same blocks later es fs kept =
+    fill_by_all (term_of_entry later fs) (map (term_of_entry blocks es) (range_with_len 0 (length es))) (length es) (Iri [])
+    (length-map-range_with_len (term_of_entry blocks es) 0 (length es))
     (λ k p.
     let same : 0 + k ≡ k = omega arith in
-    get_or-map-range_with_len (term_of_entry arena es) 0 (length es) k k (Iri []) p same ∙ ap term_of (sym (kept.text_same k p)))
+    get_or-map-range_with_len (term_of_entry blocks es) 0 (length es) k k (Iri []) p same ∙ ap term_of (sym (kept.text_same k p)))
 
 pub terms_kept :
-    (arena later : List ℕ) (es fs : List Entry) → KeepsTexts arena es later fs → length fs ≡ length es
-    → terms_of later fs ≡ terms_of arena es
+    (blocks later : List (List ℕ)) (es fs : List Entry) → KeepsTexts blocks es later fs → length fs ≡ length es
+    → terms_of later fs ≡ terms_of blocks es
 unfolding terms_of
-terms_kept arena later es fs kept count =
-    ap (λ m. map (term_of_entry later fs) (range_with_len 0 m)) count ∙ sym (below_same arena later es fs kept)
+terms_kept blocks later es fs kept count =
+    ap (λ m. map (term_of_entry later fs) (range_with_len 0 m)) count ∙ sym (below_same blocks later es fs kept)
 
 pub terms_more :
-    (arena later : List ℕ) (es fs : List Entry) (t : Term) → KeepsTexts arena es later fs → length fs ≡ length es + 1
-    → text_at later fs (length es) ≡ text_of t → terms_of later fs ≡ terms_of arena es ++ t ∷ []
+    (blocks later : List (List ℕ)) (es fs : List Entry) (t : Term) → KeepsTexts blocks es later fs → length fs ≡ length es + 1
+    → text_at later fs (length es) ≡ text_of t → terms_of later fs ≡ terms_of blocks es ++ t ∷ []
 unfolding terms_of
-terms_more arena later es fs t kept count text =
+terms_more blocks later es fs t kept count text =
     let n : ℕ = length es in
     let same : 0 + n ≡ n = omega arith in
     let term : term_of_entry later fs n ≡ t = ap term_of text ∙ term_of-text_of t in
     ap (λ m. map (term_of_entry later fs) (range_with_len 0 m)) count
     ∙ (map-range_with_len_more (term_of_entry later fs) 0 n n same
-    ∙ (ap (λ z. z ++ term_of_entry later fs n ∷ []) (sym (below_same arena later es fs kept))
-    ∙ ap (λ (u : Term). map (term_of_entry arena es) (range_with_len 0 n) ++ u ∷ []) term))
+    ∙ (ap (λ z. z ++ term_of_entry later fs n ∷ []) (sym (below_same blocks later es fs kept))
+    ∙ ap (λ (u : Term). map (term_of_entry blocks es) (range_with_len 0 n) ++ u ∷ []) term))
 
 -- the text of a term is canonical
 pub canonical_text : (t : Term) → IsTerm t → IsCanonical (text_of t)
@@ -129,9 +129,9 @@ canonical_text t valid = record {
 
 -- a dictionary whose links alone were written
 pub dict_kept :
-    (arena later : List ℕ) (es fs : List Entry) (heads links : List ℕ) (s : FoldHasher) (last : ℕ) → IsDict arena es heads s last
-    → IsTable later fs links → KeepsTexts arena es later fs → length fs ≡ length es → IsDict later fs links s last
-dict_kept arena later es fs heads links s last d table kept count = record {
+    (blocks later : List (List ℕ)) (es fs : List Entry) (heads links : List ℕ) (s : FoldHasher) (last : ℕ) → IsDict blocks es heads s last
+    → IsTable later fs links → KeepsTexts blocks es later fs → length fs ≡ length es → IsDict later fs links s last
+dict_kept blocks later es fs heads links s last d table kept count = record {
   table = table;
   canonical = λ i p.
       let inside : i < length es = omega arith in
@@ -150,14 +150,14 @@ dict_kept arena later es fs heads links s last d table kept count = record {
 
 -- a dictionary with one text more, which it did not have
 pub dict_more :
-    (arena later : List ℕ) (es fs : List Entry) (heads links : List ℕ) (s : FoldHasher) (last : ℕ) (x : List ℕ) → IsDict arena es heads s last
-    → IsTable later fs links → KeepsTexts arena es later fs → length fs ≡ length es + 1 → EntryHas later fs (length es) (hash_of s x) x
-    → IsCanonical x → Meets arena es (hash_of s x) x None → length es ≤ last → IsDict later fs links s last
-dict_more arena later es fs heads links s last x d table kept count has canonical none room =
+    (blocks later : List (List ℕ)) (es fs : List Entry) (heads links : List ℕ) (s : FoldHasher) (last : ℕ) (x : List ℕ) → IsDict blocks es heads s last
+    → IsTable later fs links → KeepsTexts blocks es later fs → length fs ≡ length es + 1 → EntryHas later fs (length es) (hash_of s x) x
+    → IsCanonical x → Meets blocks es (hash_of s x) x None → length es ≤ last → IsDict later fs links s last
+dict_more blocks later es fs heads links s last x d table kept count has canonical none room =
     let P : List ℕ → Type 0 = λ y. IsCanonical y in
     let absent : (j : ℕ) → j < length es → text_at later fs j ≡ x → ⊥ =
     λ j p e.
-    let same : text_at arena es j ≡ x = sym (kept.text_same j p) ∙ e in
+    let same : text_at blocks es j ≡ x = sym (kept.text_same j p) ∙ e in
     none j p (d.hashed j p ∙ ap (hash_of s) same, same)
     in
     record {
@@ -195,7 +195,6 @@ dict_more arena later es fs heads links s last x d table kept count has canonica
 pub dict_empty :
     (heads : List ℕ) (s : FoldHasher) (last : ℕ) → ((b : ℕ) → get_or heads b 0 ≡ 0) → AreEnough (length heads) 0 → last ≤ last_term
     → IsDict [] [] heads s last
-unfolding start_at
 dict_empty heads s last empty enough bounded = record {
   table = record {
     linked = record {
@@ -206,7 +205,7 @@ dict_empty heads s last empty enough bounded = record {
       next_there = λ i p q. absurd (omega arith);
       next_greatest = λ i j p q r. absurd (omega arith);
     };
-    spanned = record { rises = λ i p. absurd (omega arith); inside = λ i p. absurd (omega arith); whole = refl };
+    placed = record { lies = λ i p. absurd (omega arith) };
     enough = enough;
   };
   canonical = λ i p. absurd (omega arith);
@@ -222,14 +221,13 @@ terms_none = refl
 
 -- what a look-up says, in the words of the dictionary
 pub meets_as :
-    (a arena : List ℕ) (e es : List Entry) (h : ℕ) (x : List ℕ) (s : FoldHasher) (t : Term) (o : Option ℕ) → Meets a e h x o → a ≡ arena → e ≡ es
-    → x ≡ text_of t → h ≡ hash_of s x → Meets arena es (hash_of s (text_of t)) (text_of t) o
-meets_as a arena e es h x s t o m same_arena same_entries text hash =
-    let P : List ℕ → Type 0 = λ z. Meets z e h x o in
-    let Q : List Entry → Type 0 = λ z. Meets arena z h x o in
-    let R : ℕ → Type 0 = λ z. Meets arena es z x o in
-    let S : List ℕ → Type 0 = λ z. Meets arena es (hash_of s z) z o in
-    subst S text (subst R hash (subst Q same_entries (subst P same_arena m)))
+    (blocks : List (List ℕ)) (e es : List Entry) (h : ℕ) (x : List ℕ) (s : FoldHasher) (t : Term) (o : Option ℕ) → Meets blocks e h x o → e ≡ es
+    → x ≡ text_of t → h ≡ hash_of s x → Meets blocks es (hash_of s (text_of t)) (text_of t) o
+meets_as blocks e es h x s t o m same_entries text hash =
+    let Q : List Entry → Type 0 = λ z. Meets blocks z h x o in
+    let R : ℕ → Type 0 = λ z. Meets blocks es z x o in
+    let S : List ℕ → Type 0 = λ z. Meets blocks es (hash_of s z) z o in
+    subst S text (subst R hash (subst Q same_entries m))
 
 -- a number of an option's term, by its text
 option_number :
@@ -252,27 +250,27 @@ not_less : (m n : ℕ) → nat_lt m n ≡ false → n ≤ m
 not_less m n h = grind (arith, nat_tests)
 
 -- where not all numbers are given, one is left
-pub some_left : (arena : List ℕ) (es : List Entry) (last : ℕ) (d : Numbered) (full : Bool) → shown arena es last ≡ d → full ≡ nat_lt d.last (length d.terms) → full ≡ false → length es ≤ last
-some_left arena es last d full is decides not =
+pub some_left : (blocks : List (List ℕ)) (es : List Entry) (last : ℕ) (d : Numbered) (full : Bool) → shown blocks es last ≡ d → full ≡ nat_lt d.last (length d.terms) → full ≡ false → length es ≤ last
+some_left blocks es last d full is decides not =
     let short : length d.terms ≤ d.last = not_less d.last (length d.terms) (sym decides ∙ not) in
-    omega (arith, short, ap (λ (e : Numbered). length e.terms) is, ap (λ (e : Numbered). e.last) is, length-terms_of arena es)
+    omega (arith, short, ap (λ (e : Numbered). length e.terms) is, ap (λ (e : Numbered). e.last) is, length-terms_of blocks es)
 
 -- a new term, with the entry that was added for it
 pub joined :
-    (arena later : List ℕ) (es fs : List Entry) (heads links : List ℕ) (s : FoldHasher) (last : ℕ) (t : Term) (x : List ℕ) (h i : ℕ)
-    → IsDict arena es heads s last → IsTerm t → x ≡ text_of t → h ≡ hash_of s x → Meets arena es (hash_of s (text_of t)) (text_of t) None
-    → length es ≤ last → IsTable later fs links → KeepsTexts arena es later fs
+    (blocks later : List (List ℕ)) (es fs : List Entry) (heads links : List ℕ) (s : FoldHasher) (last : ℕ) (t : Term) (x : List ℕ) (h i : ℕ)
+    → IsDict blocks es heads s last → IsTerm t → x ≡ text_of t → h ≡ hash_of s x → Meets blocks es (hash_of s (text_of t)) (text_of t) None
+    → length es ≤ last → IsTable later fs links → KeepsTexts blocks es later fs
     → (i ≡ length es) × (length fs ≡ length es + 1) × EntryHas later fs (length es) h x
-    → IsDict later fs links s last × GivesNextNumber (shown arena es last) t i (shown later fs last)
-joined arena later es fs heads links s last t x h i d valid text hash none room table kept added =
+    → IsDict later fs links s last × GivesNextNumber (shown blocks es last) t i (shown later fs last)
+joined blocks later es fs heads links s last t x h i d valid text hash none room table kept added =
     let H : ℕ → Type 0 = λ k. EntryHas later fs (length es) k x in
     let X : List ℕ → Type 0 = λ z. EntryHas later fs (length es) (hash_of s z) z in
     let has : EntryHas later fs (length es) (hash_of s (text_of t)) (text_of t) = subst X text (subst H hash added.2) in (
-      dict_more arena later es fs heads links s last (text_of t) d table kept added.1 has (canonical_text t valid) none room,
+      dict_more blocks later es fs heads links s last (text_of t) d table kept added.1 has (canonical_text t valid) none room,
       record {
-        absent = new_term arena es heads s last t d none;
-        next = added.0 ∙ sym (length-terms_of arena es);
+        absent = new_term blocks es heads s last t d none;
+        next = added.0 ∙ sym (length-terms_of blocks es);
         within = omega (arith, added.0, room);
-        more = ap (λ ts. record { terms = ts; last = last }) (terms_more arena later es fs t kept added.1 has.1);
+        more = ap (λ ts. record { terms = ts; last = last }) (terms_more blocks later es fs t kept added.1 has.1);
       },
     )

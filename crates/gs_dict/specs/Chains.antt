@@ -1,22 +1,25 @@
--- The entries of a dictionary: where each text ends in the arena, and the chains of the buckets.
-use Rattle.std.specs.Prelude.{◌≡◌, ℕ, ◌+◌, ◌-◌, ◌<◌, ◌≤◌, ◌^◌, if◌then◌else◌, ◌==◌, List, length, slice_index, slice_index_or, slice_range, bit_and, Option, Some, None, Result, Ok, Err}
+-- The entries of a dictionary: where each text stands, and the chains of the buckets.
+use Rattle.std.specs.Prelude.{◌≡◌, ℕ, ◌+◌, ◌-◌, ◌<◌, ◌≤◌, ◌^◌, List, length, slice_index, slice_index_or, bit_and, Option, Some, None, Result, Ok, Err}
 use Rattle.std.specs.declared.alloc.AllocError.{AllocError}
 use Rattle.gs_dict.specs.declared.chains.Entry.{Entry}
+use Rattle.gs_dict.specs.declared.places.Place.{Place}
+use Rattle.gs_dict.specs.Places.{LiesInBlock, text_in}
 
--- an entry for a place where there is none
+-- a place for a number that has none
+abbrev pub no_place : Place
+no_place = record { bits = 0 }
+
+-- an entry for such a number
 abbrev pub no_entry : Entry
-no_entry = record { end = 0; next = 0; hash = 0 }
+no_entry = record { place = no_place; next = 0; hash = 0 }
 
 -- the entry of a number
 abbrev pub dict_entry_at : List Entry → ℕ → Entry
 dict_entry_at es i = slice_index_or es i no_entry
 
--- a text begins where the one before it ends
-unfoldable pub start_at : List Entry → ℕ → ℕ
-start_at es i = if i == 0 then 0 else (dict_entry_at es (i - 1)).end
-
-unfoldable pub text_at : List ℕ → List Entry → ℕ → List ℕ
-text_at arena es i = slice_range arena (start_at es i) (dict_entry_at es i).end
+-- the text of a number
+unfoldable pub text_at : List (List ℕ) → List Entry → ℕ → List ℕ
+text_at blocks es i = text_in blocks (dict_entry_at es i).place
 
 -- the bucket of a hash, among so many
 unfoldable pub bucket_of : ℕ → ℕ → ℕ
@@ -46,11 +49,9 @@ link_after es i = (dict_entry_at es i).next
 abbrev pub IsLinked : ℕ → List Entry → List ℕ → Type 0
 IsLinked n es heads = IsChained n (bucket_at (length heads) es) (link_after es) (slice_index heads)
 
--- texts end one after another, the last at the end of the arena
-pub record IsSpanned (arena : List ℕ) (es : List Entry) : Type 0 where
-  pub rises : (i : ℕ) → i < length es → start_at es i ≤ (dict_entry_at es i).end
-  pub inside : (i : ℕ) → i < length es → (dict_entry_at es i).end ≤ length arena
-  pub whole : start_at es (length es) ≡ length arena
+-- each entry's place lies in its block
+pub record AreInBlocks (blocks : List (List ℕ)) (es : List Entry) : Type 0 where
+  pub lies : (i : ℕ) → i < length es → LiesInBlock blocks (dict_entry_at es i).place
 
 -- so many buckets are enough for so many entries: a power of two, so that a bit mask reaches each bucket, and no fewer
 -- than the entries, so that chains are short
@@ -59,39 +60,39 @@ pub record AreEnough (buckets entries : ℕ) : Type 0 where
   pub power : (k : ℕ) × (buckets ≡ 2 ^ k)
   pub short : entries ≤ buckets
 
--- the arena, the entries and the first links of the buckets belong together
-pub record IsTable (arena : List ℕ) (es : List Entry) (heads : List ℕ) : Type 0 where
+-- the blocks, the entries and the first links of the buckets belong together
+pub record IsTable (blocks : List (List ℕ)) (es : List Entry) (heads : List ℕ) : Type 0 where
   pub linked : IsLinked (length es) es heads
-  pub spanned : IsSpanned arena es
+  pub placed : AreInBlocks blocks es
   pub enough : AreEnough (length heads) (length es)
 
 -- the number has this hash and this text
-abbrev pub EntryHas : List ℕ → List Entry → ℕ → ℕ → List ℕ → Type 0
-EntryHas arena es i hash x = ((dict_entry_at es i).hash ≡ hash) × (text_at arena es i ≡ x)
+abbrev pub EntryHas : List (List ℕ) → List Entry → ℕ → ℕ → List ℕ → Type 0
+EntryHas blocks es i hash x = ((dict_entry_at es i).hash ≡ hash) × (text_at blocks es i ≡ x)
 
 -- no number has this hash and this text, or this one has
-abbrev pub Meets : List ℕ → List Entry → ℕ → List ℕ → Option ℕ → Type 0
-Meets arena es hash x None = (j : ℕ) → j < length es → EntryHas arena es j hash x → ⊥
-Meets arena es hash x (Some i) = (i < length es) × EntryHas arena es i hash x
+abbrev pub Meets : List (List ℕ) → List Entry → ℕ → List ℕ → Option ℕ → Type 0
+Meets blocks es hash x None = (j : ℕ) → j < length es → EntryHas blocks es j hash x → ⊥
+Meets blocks es hash x (Some i) = (i < length es) × EntryHas blocks es i hash x
 
 -- the chain from a link on has all numbers of this hash and this text
-pub record IsAlong (arena : List ℕ) (es : List Entry) (buckets hash : ℕ) (x : List ℕ) (link : ℕ) : Type 0 where
+pub record IsAlong (blocks : List (List ℕ)) (es : List Entry) (buckets hash : ℕ) (x : List ℕ) (link : ℕ) : Type 0 where
   pub given : link ≤ length es
   pub there : 0 < link → bucket_at buckets es (link - 1) ≡ bucket_of buckets hash
-  pub passed : (j : ℕ) → j < length es → link ≤ j → EntryHas arena es j hash x → ⊥
+  pub passed : (j : ℕ) → j < length es → link ≤ j → EntryHas blocks es j hash x → ⊥
 
--- as many entries, with the ends and the hashes that they had
+-- as many entries, with the places and the hashes that they had
 pub record Agree (es fs : List Entry) : Type 0 where
   pub count : length fs ≡ length es
-  pub end_same : (i : ℕ) → (dict_entry_at fs i).end ≡ (dict_entry_at es i).end
+  pub place_same : (i : ℕ) → (dict_entry_at fs i).place ≡ (dict_entry_at es i).place
   pub hash_same : (i : ℕ) → (dict_entry_at fs i).hash ≡ (dict_entry_at es i).hash
 
 -- each number keeps its text and its hash
-pub record KeepsTexts (arena : List ℕ) (es : List Entry) (later : List ℕ) (fs : List Entry) : Type 0 where
-  pub text_same : (i : ℕ) → i < length es → text_at later fs i ≡ text_at arena es i
+pub record KeepsTexts (blocks : List (List ℕ)) (es : List Entry) (later : List (List ℕ)) (fs : List Entry) : Type 0 where
+  pub text_same : (i : ℕ) → i < length es → text_at later fs i ≡ text_at blocks es i
   pub hash_same : (i : ℕ) → i < length es → (dict_entry_at fs i).hash ≡ (dict_entry_at es i).hash
 
 -- one more entry has the next number, this hash and this text; or memory was wanted, and there are as many as before
-abbrev pub AddsText : ℕ → List ℕ → List Entry → ℕ → List ℕ → Result ℕ AllocError → Type 0
+abbrev pub AddsText : ℕ → List (List ℕ) → List Entry → ℕ → List ℕ → Result ℕ AllocError → Type 0
 AddsText n later fs hash x (Ok i) = (i ≡ n) × (length fs ≡ n + 1) × EntryHas later fs n hash x
 AddsText n later fs hash x (Err e) = length fs ≡ n

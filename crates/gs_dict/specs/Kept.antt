@@ -1,4 +1,4 @@
--- How a dictionary is kept: its terms are those of the texts in the arena.
+-- How a dictionary is kept: its terms are those of the texts in its blocks.
 use Rattle.std.specs.Prelude.{◌≡◌, ℕ, ◌+◌, ◌<◌, ◌≤◌, List, length, map, bit_and}
 use Rattle.std.specs.List.{range_with_len}
 use Rattle.std.specs.Hash.FoldHasher as folding
@@ -14,18 +14,18 @@ unfoldable pub hash_of : FoldHasher → List ℕ → ℕ
 hash_of seeded x = bit_and (folding.finish (folding.write seeded x)) 0xFFFF_FFFF
 
 -- the term whose text a number has
-abbrev pub term_of_entry : List ℕ → List Entry → ℕ → Term
-term_of_entry arena es i = term_of (text_at arena es i)
+abbrev pub term_of_entry : List (List ℕ) → List Entry → ℕ → Term
+term_of_entry blocks es i = term_of (text_at blocks es i)
 
 -- the terms, in the order of their numbers
-unfoldable pub terms_of : List ℕ → List Entry → List Term
-terms_of arena es = map (term_of_entry arena es) (range_with_len 0 (length es))
+unfoldable pub terms_of : List (List ℕ) → List Entry → List Term
+terms_of blocks es = map (term_of_entry blocks es) (range_with_len 0 (length es))
 
 -- each number has a text of a term, in the chain of its hash, and no two have one text
-pub record IsDict (arena : List ℕ) (es : List Entry) (heads : List ℕ) (seeded : FoldHasher) (last : ℕ) : Type 0 where
-  pub table : IsTable arena es heads
-  pub canonical : (i : ℕ) → i < length es → IsCanonical (text_at arena es i)
-  pub hashed : (i : ℕ) → i < length es → (dict_entry_at es i).hash ≡ hash_of seeded (text_at arena es i)
-  pub apart : (i j : ℕ) → i < length es → j < length es → text_at arena es i ≡ text_at arena es j → i ≡ j
+pub record IsDict (blocks : List (List ℕ)) (es : List Entry) (heads : List ℕ) (seeded : FoldHasher) (last : ℕ) : Type 0 where
+  pub table : IsTable blocks es heads
+  pub canonical : (i : ℕ) → i < length es → IsCanonical (text_at blocks es i)
+  pub hashed : (i : ℕ) → i < length es → (dict_entry_at es i).hash ≡ hash_of seeded (text_at blocks es i)
+  pub apart : (i j : ℕ) → i < length es → j < length es → text_at blocks es i ≡ text_at blocks es j → i ≡ j
   pub few : length es ≤ last + 1
   pub bounded : last ≤ last_term

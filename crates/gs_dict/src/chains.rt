@@ -1,16 +1,18 @@
-//! Texts in one arena, with an entry for each, and chains of entries by their hashes.
-ghost use Rattle.std.specs.Prelude.{◌≡◌, ◌+◌, ◌-◌, ◌<◌, ◌≤◌, ◌^◌, length, slice_index, ℕ, IfOk, OnOk};
+//! An entry for each text, and chains of entries by their hashes.
+ghost use Rattle.std.specs.Prelude.{◌≡◌, ◌+◌, ◌-◌, ◌<◌, ◌≤◌, ◌^◌, length, slice_index, ℕ, IfOk, OnOk, OnErr};
 ghost use Rattle.std.specs.Bool.{Decides};
-ghost use Rattle.gs_dict.specs.Chains.{IsLinked, IsSpanned, IsTable, AreEnough, EntryHas, Meets, Agree, KeepsTexts, AddsText, text_at as text_of_number, bucket_of};
+ghost use Rattle.gs_dict.specs.Chains.{IsLinked, AreInBlocks, IsTable, AreEnough, EntryHas, Meets, Agree, KeepsTexts, AddsText, text_at as text_of_number, bucket_of};
 
 use crate::numbers::NO_TERM;
+use crate::places::Place;
+use crate::texts::Texts;
 use std::alloc::{AllocError, Global};
 
-/// Where a text ends in the arena, the next link of its chain, and its hash. A link is a number
-/// plus one, and 0 at the end of a chain. 16 bytes.
+/// Where a text stands, the next link of its chain, and its hash. A link is a number plus one, and 0 at
+/// the end of a chain. 16 bytes.
 #[derive(Clone, Copy, Debug, Drop)]
 pub struct Entry {
-    pub end: u64,
+    pub place: Place,
     pub next: u32,
     pub hash: u32,
 }
@@ -26,39 +28,33 @@ fn bucket(hash: u32, buckets: usize) -> usize
 }
 
 /// The text of a number.
-#[tactic(auto, unfolding(crate::specs::Chains::text_at, crate::specs::Chains::start_at))]
-pub fn text_at<'a>(arena: &'a [u8], entries: &[Entry], number: usize) -> &'a [u8]
+#[tactic(auto, unfolding(crate::specs::Chains::text_at))]
+pub fn text_at<'a>(texts: &'a Texts, entries: &[Entry], number: usize) -> &'a [u8]
     requires given { number < length entries.now }
-    requires spanned { IsSpanned arena.now entries.now }
-    ensures { result.now ≡ text_of_number arena.now entries.now number }
+    requires placed { AreInBlocks texts.now entries.now }
+    ensures { result.now ≡ text_of_number texts.now entries.now number }
 {
-    let start = if number == 0 {
-        0
-    } else {
-        entries[number - 1].end as usize
-    };
-    let end = entries[number].end as usize;
-    &arena[start..end]
+    texts.get(entries[number].place)
 }
 
 /// Whether a number has this hash and this text. Few texts are compared: most hashes differ.
-fn has(arena: &[u8], entries: &[Entry], number: usize, text: &[u8], hash: u32) -> bool
+fn has(texts: &Texts, entries: &[Entry], number: usize, text: &[u8], hash: u32) -> bool
     requires given { number < length entries.now }
-    requires spanned { IsSpanned arena.now entries.now }
-    ensures { Decides result (EntryHas arena.now entries.now number hash text.now) }
+    requires placed { AreInBlocks texts.now entries.now }
+    ensures { Decides result (EntryHas texts.now entries.now number hash text.now) }
 {
-    entries[number].hash == hash && text_at(arena, entries, number) == text
+    entries[number].hash == hash && text_at(texts, entries, number) == text
 }
 
 /// The number of a text, looked for along the chain of its hash.
-pub fn find(arena: &[u8], entries: &[Entry], heads: &[u32], text: &[u8], hash: u32) -> Option<u32>
-    requires { IsTable arena.now entries.now heads.now }
-    ensures { Meets arena.now entries.now hash text.now result }
+pub fn find(texts: &Texts, entries: &[Entry], heads: &[u32], text: &[u8], hash: u32) -> Option<u32>
+    requires { IsTable texts.now entries.now heads.now }
+    ensures { Meets texts.now entries.now hash text.now result }
 {
     let mut link = heads[bucket(hash, heads.len())];
     while link > 0 {
         let number = link - 1;
-        if has(arena, entries, number as usize, text, hash) {
+        if has(texts, entries, number as usize, text, hash) {
             return Some(number);
         }
         link = entries[number as usize].next;
@@ -99,26 +95,21 @@ fn with_hash(
     found
 }
 
-/// Where the text of a number begins. For a number that was not given, 0 or the end of the arena.
-fn start_of(entries: &[Entry], number: u32) -> u64 {
-    match entries.get((number as usize).wrapping_sub(1)) {
-        Some(entry) => entry.end,
-        None => 0,
-    }
-}
-
 /// Those of the numbers whose text begins with the byte, in their places, and `NO_TERM`'s in the
 /// others.
 fn with_first(
-    arena: &[u8],
+    texts: &Texts,
     entries: &[Entry],
     numbers: &[u32; GUESSED_TOGETHER],
     firsts: &[u8; GUESSED_TOGETHER],
-) -> [u32; GUESSED_TOGETHER] {
+) -> [u32; GUESSED_TOGETHER]
+    requires { AreInBlocks texts.now entries.now }
+{
     let mut found = [NO_TERM.number; GUESSED_TOGETHER];
     for i in 0..GUESSED_TOGETHER {
-        if let Some(first) = arena.get(start_of(entries, numbers[i]) as usize) {
-            found[i] = if *first == firsts[i] {
+        if let Some(entry) = entries.get(numbers[i] as usize) {
+            let first = texts.get(entry.place).first().copied().unwrap_or(0);
+            found[i] = if first == firsts[i] {
                 numbers[i]
             } else {
                 NO_TERM.number
@@ -130,19 +121,18 @@ fn with_first(
 
 /// For each hash and first byte the newest number of the hash's chain, where its entry has the hash
 /// and its text begins with the byte, and else `NO_TERM`'s. Heads are read first, then entries, then
-/// texts with the entries that say where they begin; within a step no term waits for another.
-/// The byte is compared so that the text is fetched.
+/// texts; within a step no term waits for another. The byte is compared so that the text is fetched.
 pub fn guesses(
-    arena: &[u8],
+    texts: &Texts,
     entries: &[Entry],
     heads: &[u32],
     hashes: &[u32; GUESSED_TOGETHER],
     firsts: &[u8; GUESSED_TOGETHER],
 ) -> [u32; GUESSED_TOGETHER]
-    requires { 0 < length heads.now }
+    requires { IsTable texts.now entries.now heads.now }
 {
     let numbers = with_hash(entries, &newest(heads, hashes), hashes);
-    with_first(arena, entries, &numbers, firsts)
+    with_first(texts, entries, &numbers, firsts)
 }
 
 /// Puts all entries into chains, in the order of their numbers.
@@ -189,26 +179,27 @@ fn grow(entries: &mut Vec<Entry>, heads: &mut Vec<u32>) -> Result<(), AllocError
 
 /// Adds a text, which has the next number. Where memory is wanted, nothing is added.
 pub fn add(
-    arena: &mut Vec<u8>,
+    texts: &mut Texts,
     entries: &mut Vec<Entry>,
     heads: &mut Vec<u32>,
     text: &[u8],
     hash: u32,
 ) -> Result<u32, AllocError>
-    requires table { IsTable arena.old.items entries.old.items heads.old.items }
+    requires table { IsTable texts.old entries.old.items heads.old.items }
     requires few { length entries.old.items + 1 < 2 ^ 32 }
-    ensures table { IsTable arena.new.items entries.new.items heads.new.items }
-    ensures kept { KeepsTexts arena.old.items entries.old.items arena.new.items entries.new.items }
-    ensures value { AddsText (length entries.old.items) arena.new.items entries.new.items hash text.now
-        result }
+    requires short { length text.now < 2 ^ 16 }
+    ensures table { IsTable texts.new entries.new.items heads.new.items }
+    ensures kept { KeepsTexts texts.old entries.old.items texts.new entries.new.items }
+    ensures value { AddsText (length entries.old.items) texts.new entries.new.items hash text.now result }
+    ensures err { OnErr result (texts.new ≡ texts.old) }
 {
     grow(entries, heads)?;
     entries.reserve(1)?;
-    arena.extend_from_slice(text)?;
+    let place = texts.push(text)?;
     let b = bucket(hash, heads.len());
     let number = entries.len() as u32;
     entries.push(Entry {
-        end: arena.len() as u64,
+        place,
         next: heads[b],
         hash,
     })?;

@@ -9,6 +9,7 @@ ghost use Rattle.gs_dict.specs.Kept.{hash_of as hash_of_text};
 
 use crate::chains::{self, Entry, GUESSED_TOGETHER};
 use crate::numbers::TermId;
+use crate::texts::Texts;
 use gs_model::{LAST_TERM, Refusal};
 use gs_term::TermText;
 use std::alloc::Global;
@@ -18,12 +19,12 @@ use std::marker::Model;
 /// The buckets of a dictionary without terms. They are doubled as terms are added.
 const FIRST_BUCKETS: usize = 1024;
 
-/// Terms by number. Each text stands once, in one arena; a number is found by the hash of its
-/// text, which a seed keeps from strangers. A contract sees the terms, in the order of their
-/// numbers, and the greatest number that may be given.
+/// Terms by number. Each text stands once; a number is found by the hash of its text, which a seed
+/// keeps from strangers. A contract sees the terms, in the order of their numbers, and the greatest
+/// number that may be given.
 #[derive(Drop)]
 pub struct Dict {
-    arena: Vec<u8>,
+    texts: Texts,
     entries: Vec<Entry>,
     heads: Vec<u32>,
     /// A hasher that has been given the seed.
@@ -41,9 +42,9 @@ impl Model for Dict {
 
     ghost use Rattle.gs_dict.specs.Kept.{terms_of, IsDict};
 
-    ghost view = { λ d. record { terms = terms_of d.arena.items d.entries.items; last = d.last } };
+    ghost view = { λ d. record { terms = terms_of d.texts d.entries.items; last = d.last } };
 
-    ghost invariant = { λ d. IsDict d.arena.items d.entries.items d.heads.items d.seeded d.last };
+    ghost invariant = { λ d. IsDict d.texts d.entries.items d.heads.items d.seeded d.last };
 }
 
 #[tactic(auto, unfolding(crate::specs::Kept::hash_of))]
@@ -66,7 +67,7 @@ impl Dict {
         seeded.write_u64(seed);
         let heads = chains::empty_buckets(alloc, FIRST_BUCKETS)?;
         Ok(Dict {
-            arena: Vec::new(alloc),
+            texts: Texts::new(alloc),
             entries: Vec::new(alloc),
             heads,
             seeded,
@@ -104,7 +105,7 @@ impl Dict {
         ensures value { option_map text_of (slice_get self.now.terms id.number) ≡ Some result.now }
         ensures valid { (t : Term) → IsNumberOf self.now.terms id.number t → IsTerm t }
     {
-        chains::text_at(&self.arena, &self.entries, id.number as usize)
+        chains::text_at(&self.texts, &self.entries, id.number as usize)
     }
 
     /// Whether this number is the term's: one comparison of texts, and no hash.
@@ -123,7 +124,7 @@ impl Dict {
     {
         let text = term.as_bytes();
         let hash = hash_of(self.seeded, text);
-        let number = chains::find(&self.arena, &self.entries, &self.heads, text, hash)?;
+        let number = chains::find(&self.texts, &self.entries, &self.heads, text, hash)?;
         Some(TermId { number })
     }
 
@@ -139,7 +140,7 @@ impl Dict {
             hashes[i] = hash_of(self.seeded, text);
             firsts[i] = text.first().copied().unwrap_or(0);
         }
-        chains::guesses(&self.arena, &self.entries, &self.heads, &hashes, &firsts).map(
+        chains::guesses(&self.texts, &self.entries, &self.heads, &hashes, &firsts).map(
             |number| TermId { number },
         )
     }
@@ -154,14 +155,14 @@ impl Dict {
     {
         let text = term.as_bytes();
         let hash = hash_of(self.seeded, text);
-        if let Some(number) = chains::find(&self.arena, &self.entries, &self.heads, text, hash) {
+        if let Some(number) = chains::find(&self.texts, &self.entries, &self.heads, text, hash) {
             return Ok(TermId { number });
         }
         if self.is_full() {
             return Err(Refusal::NoMemory);
         }
         let number = chains::add(
-            &mut self.arena,
+            &mut self.texts,
             &mut self.entries,
             &mut self.heads,
             text,

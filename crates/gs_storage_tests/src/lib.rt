@@ -8,6 +8,8 @@ mod draws;
 #[cfg(test)]
 mod holds;
 #[cfg(test)]
+mod lengths;
+#[cfg(test)]
 mod nodes;
 #[cfg(test)]
 mod outcome;

@@ -1,5 +1,6 @@
 //! Storage where a request for memory is refused. With memory these show the usual answers;
 //! `rt try --test --fail-alloc N` refuses the request of that number.
+use crate::lengths::{LONGEST, literal_of};
 use crate::outcome::none_wrong;
 use crate::terms::term;
 use gs_dict::Dict;
@@ -48,6 +49,48 @@ fn first_not_given(alloc: Global, dict: &mut Dict) -> Result<Option<u32>, Refusa
 fn a_refused_term_is_new_as_before(rt: HostRuntime) -> Result<(), Fail> {
     let mut dict = Dict::new(rt.alloc(), 1, u32::MAX)?;
     let first = first_not_given(rt.alloc(), &mut dict);
+    drop(dict);
+    none_wrong(first)
+}
+
+/// Adds as many literals as there are to be, each as long as may be.
+fn push_literals(alloc: Global, literals: &mut Vec<TermText>) -> Result<(), Refusal> {
+    for number in 0..24 {
+        literals.push(literal_of(alloc, number, LONGEST)?)?;
+    }
+    Ok(())
+}
+
+/// The place of the first of these literals that it does not get as its number.
+fn first_not_placed(dict: &mut Dict, literals: &[TermText]) -> Result<Option<u32>, Refusal> {
+    let mut number = 0u32;
+    for literal in literals {
+        if !is_given(dict, literal, number)? {
+            return Ok(Some(number));
+        }
+        number = number.saturating_add(1);
+    }
+    Ok(None)
+}
+
+/// The same of literals that are made for it.
+fn first_literal_not_given(
+    alloc: Global,
+    dict: &mut Dict,
+    literals: &mut Vec<TermText>,
+) -> Result<Option<u32>, Refusal> {
+    push_literals(alloc, literals)?;
+    first_not_placed(dict, literals)
+}
+
+/// Thirteen of these 24 texts, which are made before the first gets its number, begin a block, which is a
+/// request for memory.
+#[test]
+fn a_refused_block_changes_nothing(rt: HostRuntime) -> Result<(), Fail> {
+    let mut dict = Dict::new(rt.alloc(), 1, u32::MAX)?;
+    let mut literals: Vec<TermText> = Vec::new(rt.alloc());
+    let first = first_literal_not_given(rt.alloc(), &mut dict, &mut literals);
+    drop(literals);
     drop(dict);
     none_wrong(first)
 }

@@ -4,11 +4,11 @@ use Rattle.gs_dict.specs.Numbering.{Numbered}
 use Rattle.gs_dict.proofs.dict.Dict.len.Goals as goal
 
 pub returns-clause-value : goal.returns-clause-value
-returns-clause-value c = omega (arith, ap (λ (d : Numbered). length d.terms) c.self.view_is, length-terms_of c.self.inside.arena.items c.self.inside.entries.items)
+returns-clause-value c = omega (arith, ap (λ (d : Numbered). length d.terms) c.self.view_is, length-terms_of c.self.inside.texts c.self.inside.entries.items)
 
 pub returns-clause-fits : goal.returns-clause-fits
 returns-clause-fits c =
-    omega (arith, ap (λ (d : Numbered). length d.terms) c.self.view_is, length-terms_of c.self.inside.arena.items c.self.inside.entries.items, ap (λ (d : Numbered). d.last) c.self.view_is, c.self.invariant.few)
+    omega (arith, ap (λ (d : Numbered). length d.terms) c.self.view_is, length-terms_of c.self.inside.texts c.self.inside.entries.items, ap (λ (d : Numbered). d.last) c.self.view_is, c.self.invariant.few)
 
 pub returns-clause-distinct : goal.returns-clause-distinct
 returns-clause-distinct c = rw (← c.self.view_is) (terms_distinct _ _ _ _ _ c.self.invariant)

@@ -5,13 +5,13 @@ use Rattle.gs_dict.proofs.dict.Dict.text.Goals as goal
 
 pub text_at-requires-clause-given : goal.text_at-requires-clause-given
 text_at-requires-clause-given c =
-    omega (arith, ap (λ (d : Numbered). length d.terms) c.self.view_is, length-terms_of c.self.inside.arena.items c.self.inside.entries.items)
+    omega (arith, ap (λ (d : Numbered). length d.terms) c.self.view_is, length-terms_of c.self.inside.texts c.self.inside.entries.items)
 
 pub returns-clause-value : goal.returns-clause-value
 returns-clause-value c =
-    rw (← c.self.view_is, rw (c.deref.ensures.value, c.deref-2.ensures.value) at c.text_at.ensures)
+    rw (← c.self.view_is, rw c.deref.ensures.value at c.text_at.ensures)
     (given_text _ _ _ _ _ c.args.id.number c.self.invariant
-    (omega (arith, ap (λ (d : Numbered). length d.terms) c.self.view_is, length-terms_of c.self.inside.arena.items c.self.inside.entries.items)))
+    (omega (arith, ap (λ (d : Numbered). length d.terms) c.self.view_is, length-terms_of c.self.inside.texts c.self.inside.entries.items)))
 
 pub returns-clause-valid : goal.returns-clause-valid
 returns-clause-valid c = λ t number. number_valid _ _ _ _ _ c.args.id.number t c.self.invariant (subst (λ (d : Numbered). IsNumberOf d.terms c.args.id.number t) (sym c.self.view_is) number)
