@@ -9,17 +9,16 @@ use Rattle.std.proofs.lemmas.Option.{slice_get_within, slice_get_read, get_or_fr
 use Rattle.std.proofs.Math.Seq.{map-set_same}
 use Rattle.gs_model.specs.Limits.{last_node}
 use Rattle.gs_pool.specs.declared.nodes.Node.{Node}
-use Rattle.gs_pool.specs.declared.places.Place.{Place}
 use Rattle.gs_pool.specs.declared.holds.Hold.{Hold}
 use Rattle.gs_pool.specs.Pool.{Nodes, plain, is_aside, is_retired}
 use Rattle.gs_pool.specs.Held.{IsNeededBy, AreHeld, let_go}
-use Rattle.gs_pool.specs.Places.{content_of, next_of, node_in, mark_in, is_whole, node_of, mark_of, is_free_place, is_aside_place, is_retired_place}
+use Rattle.gs_pool.specs.Places.{Place, content_of, next_of, node_in, mark_in, is_whole, node_of, mark_of, is_free_place, is_aside_place, is_retired_place}
 use Rattle.gs_pool.specs.Lists.{place_kind, hold_at, times, pin_of, hold_count, empty_hold, with_node_first, is_kept_for, is_retired_at, AreRetired, AreSoundLists}
 use Rattle.gs_pool.proofs.ListLemmas.{place_of, list_off, count-set}
 use Rattle.gs_pool.proofs.HoldLemmas.{kept_for, kept_pin, all_held, last_within, total_few, held_few, empty_count}
 use Rattle.gs_pool.proofs.ReleaseLemmas.{released_none, released}
 use Rattle.gs_pool.proofs.PlaceLemmas.{IsUsed, held_sound}
-use Rattle.gs_pool.proofs.ShownLemmas.{retired_place}
+use Rattle.gs_pool.proofs.StateLemmas.{retired_place}
 
 -- the pins, by list
 pins_at : (holds : List Hold) (k : ℕ) → get_or (map pin_of holds) k None ≡ (hold_at holds k).pin
@@ -72,7 +71,7 @@ pub needed_place : (p : Nodes) (places : List Place) (holds : List Hold) (list i
 needed_place p places holds list id death s d need used nodes pins content dies is_so =
     let there : Some (content_of d) ≡ Some need.node = sym used.shown ∙ ap (λ ns. get_or ns id None) (sym nodes) ∙ need.found in
     let same : content_of d ≡ need.node = cc in
-    let born : s.birth ≡ need.node.birth = ap (λ (n : Node). n.birth) (content ∙ same) in
+    let born : s.node.birth ≡ need.node.birth = ap (λ (n : Node). n.birth) (content ∙ same) in
     kept_for place_kind (hold_at holds list).pin s need.version (sym (pins_at holds list) ∙ ap (λ ps. get_or ps list None) (sym pins) ∙ need.pinned) is_so
     (omega (arith, need.lies.0, born), omega (arith, need.lies.1, dies))
 

@@ -3,11 +3,10 @@ use Rattle.std.proofs.Common.{◌≡◌, ◌≢◌, ℕ, ◌+◌, ◌<◌, ◌�
 use Rattle.std.specs.Prelude.{is_some}
 use Rattle.std.proofs.lemmas.List.Edits.{swap_is}
 use Rattle.std.proofs.lemmas.List.{length-map, map-set, get_or-set_same, get_or-set_other}
-use Rattle.gs_pool.specs.declared.places.Place.{Place}
 use Rattle.gs_pool.specs.declared.holds.Hold.{Hold}
 use Rattle.gs_pool.specs.Pool.{Nodes}
 use Rattle.gs_pool.specs.Held.{GivesAll, Exchanges}
-use Rattle.gs_pool.specs.Places.{content_of, next_of, mark_in, mark_of}
+use Rattle.gs_pool.specs.Places.{Place, content_of, next_of, mark_in, mark_of}
 use Rattle.gs_pool.specs.Pool.{is_retired}
 use Rattle.gs_pool.specs.Lists.{place_kind, hold_at, pin_of, hold_count, empty_hold, joined_holds, AreRetired, AreSoundLists}
 use Rattle.gs_pool.proofs.HoldLemmas.{total_few}

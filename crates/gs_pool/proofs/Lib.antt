@@ -1,10 +1,14 @@
 pub mod ListLemmas
+pub mod MapLemmas
 pub mod ChainLemmas
 pub mod HoldLemmas
 pub mod RetireLemmas
 pub mod ReleaseLemmas
 pub mod JoinLemmas
+pub mod StateLemmas
 pub mod PlaceLemmas
 pub mod ShownLemmas
 pub mod FollowLemmas
 pub mod HandOverLemmas
+pub mod TailLemmas
+pub mod SlotLemmas

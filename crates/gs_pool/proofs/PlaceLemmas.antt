@@ -1,33 +1,19 @@
 -- What a pool shows of its places, and how each change of a place keeps all three lists.
-use Rattle.std.proofs.Common.{◌≡◌, ◌≢◌, ℕ, suc, ◌+◌, ◌-◌, ◌<◌, ◌≤◌, Bool, true, false, cond, List, [], ◌∷◌, map, length, get_or, set, Option, Some, None, is_some, IsSome, count_by, refl, sym, ap, subst, ◌∙◌, arith, length-set, true≢false}
+use Rattle.std.proofs.Common.{◌≡◌, ◌≢◌, ℕ, ◌+◌, ◌-◌, ◌<◌, ◌≤◌, Bool, true, false, cond, List, map, length, get_or, set, Option, Some, None, is_some, IsSome, count_by, sym, ap, subst, ◌∙◌, arith, length-set}
 use Rattle.std.specs.Prelude.{is_none}
-use Rattle.std.proofs.lemmas.List.{map-set, length-map, get_or-map, get_or-set_same, get_or-set_other, get_or_past}
-use Rattle.std.proofs.lemmas.List.Sums.{sum_by-cons}
+use Rattle.std.proofs.lemmas.List.{length-map, get_or-map, get_or_past}
 use Rattle.std.proofs.Math.Seq.{map-set_same}
 use Rattle.gs_pool.specs.declared.nodes.Node.{Node}
-use Rattle.gs_pool.specs.declared.places.Place.{Place}
-use Rattle.gs_pool.specs.declared.places.State.{State}
-use Rattle.gs_pool.specs.declared.places.State.TheVariants.{Free, Plain, AsideNode, AsideTree, RetiredNode, RetiredTree}
+use Rattle.gs_pool.specs.declared.slots.State.{State}
+use Rattle.gs_pool.specs.declared.slots.State.TheVariants.{Plain}
 use Rattle.gs_pool.specs.Pool.{Nodes, NodeMark, plain, aside, retired, is_aside, is_retired, Marks}
-use Rattle.gs_pool.specs.Places.{content_of, next_of, node_in, mark_in, aside_state, retired_state, node_of, mark_of, is_free_place, is_aside_place, is_retired_place}
+use Rattle.gs_pool.specs.Places.{Place, free_place, content_of, next_of, node_in, mark_in, node_of, mark_of, is_free_place, is_aside_place, is_retired_place}
 use Rattle.gs_pool.specs.declared.holds.Hold.{Hold}
 use Rattle.gs_pool.specs.Lists.{place_kind, hold_at, with_node_first, is_kept_for, AreSoundLists}
 use Rattle.gs_pool.proofs.ListLemmas.{list_push, list_pop, list_off, count-set}
+use Rattle.gs_pool.proofs.MapLemmas.{at_itself, some_not_none, count_shown, shown_here, shown_else}
+use Rattle.gs_pool.proofs.StateLemmas.{node_is_content, plain_state}
 use Rattle.gs_pool.proofs.RetireLemmas.{retired_off, retired_push, retired_pop, retired_hold}
-
--- a node in some state is the node itself
-pub node_is_content : (st : State) (n : Node) → IsSome (node_in st n) → node_in st n ≡ Some n
-node_is_content Free n h = absurd (true≢false (sym h))
-node_is_content Plain n h = refl
-node_is_content AsideNode n h = refl
-node_is_content AsideTree n h = refl
-node_is_content RetiredNode n h = refl
-node_is_content RetiredTree n h = refl
-
--- some node is not none
-pub some_not_none : {A : Type 0} (o : Option A) → IsSome o → is_none o ≡ false
-some_not_none None h = absurd (true≢false (sym h))
-some_not_none (Some n) h = refl
 
 -- what is read at a number in use
 pub record IsUsed (places : List Place) (id : ℕ) (d : Place) : Type 0 where
@@ -52,11 +38,25 @@ is_used places id d read used =
       not_free = some_not_none (node_of d) some;
     }
 
--- counting what is shown is counting the places that show it
-pub count_shown : {B : Type 0} (test : B → Bool) (show : Place → B) (places : List Place) → count_by test (map show places) ≡ count_by (λ s. test (show s)) places
-count_shown test show [] = refl
-count_shown test show (s ∷ places) =
-    omega (arith, sum_by-cons (λ b. cond (test b) 1 0) (show s) (map show places), sum_by-cons (λ p. cond (test (show p)) 1 0) s places, count_shown test show places)
+-- what is read at the number of a plain node
+pub record IsPlainAt (places : List Place) (id : ℕ) (d : Place) : Type 0 where
+  pub read : d ≡ get_or places id d
+  pub used : IsUsed places id d
+  pub unlisted : mark_of d ≡ plain
+  pub state : d.state ≡ Plain
+
+pub is_plain_at : (places : List Place) (id : ℕ) → IsSome (get_or (map node_of places) id None) → get_or (map mark_of places) id plain ≡ plain → IsPlainAt places id (get_or places id (free_place None))
+is_plain_at places id some mark =
+    let d = get_or places id (free_place None) in
+    let read = at_itself places id (free_place None) in
+    let u = is_used places id d read some in
+    let unlisted : mark_of d ≡ plain = sym u.mark ∙ mark in
+    record {
+      read = read;
+      used = u;
+      unlisted = unlisted;
+      state = plain_state d.state d.death (content_of d) (ap is_some u.node) unlisted;
+    }
 
 -- what is shown after a place was written
 pub record Writes (places : List Place) (id : ℕ) (s d : Place) : Type 0 where
@@ -73,10 +73,10 @@ pub record Writes (places : List Place) (id : ℕ) (s d : Place) : Type 0 where
 pub writes : (places : List Place) (id : ℕ) (s d : Place) → id < length places → d ≡ get_or places id d → Writes places id s d
 writes places id s d within read = record {
   len = length-set places id s;
-  node = rw (map-set node_of places id s) (get_or-set_same (map node_of places) id (node_of s) None (omega (arith, length-map places node_of)));
-  node_others = λ x ne. rw (map-set node_of places id s) (get_or-set_other (map node_of places) id x (node_of s) None ne);
-  mark = rw (map-set mark_of places id s) (get_or-set_same (map mark_of places) id (mark_of s) plain (omega (arith, length-map places mark_of)));
-  mark_others = λ x ne. rw (map-set mark_of places id s) (get_or-set_other (map mark_of places) id x (mark_of s) plain ne);
+  node = shown_here node_of None places id s within;
+  node_others = λ x ne. shown_else node_of None places id x s ne;
+  mark = shown_here mark_of plain places id s within;
+  mark_others = λ x ne. shown_else mark_of plain places id x s ne;
   free = count is_none node_of;
   used = count is_some node_of;
   aside_ones = count is_aside mark_of;
@@ -120,23 +120,6 @@ marked old new places id s m n r old_nodes old_marks new_nodes new_marks spare l
 -- a place of a state that is not free, with the content of a place in use, has that place's node
 pub same_node : (places : List Place) (id : ℕ) (s d : Place) (st : State) → IsUsed places id d → content_of s ≡ content_of d → s.state ≡ st → ((n : Node) → node_in st n ≡ Some n) → node_of s ≡ node_of d
 same_node places id s d st used content state some = ap (λ k. node_in k (content_of s)) state ∙ some (content_of s) ∙ ap Some content ∙ sym used.node
-
--- a node that is set aside or retired, alone or with all below it, is in use and marked so
-pub node_in_aside : (whole : Bool) (n : Node) → node_in (aside_state whole) n ≡ Some n
-node_in_aside true n = refl
-node_in_aside false n = refl
-
-pub mark_in_aside : (whole : Bool) (death : ℕ) → mark_in (aside_state whole) death ≡ aside death whole
-mark_in_aside true death = refl
-mark_in_aside false death = refl
-
-pub node_in_retired : (whole : Bool) (n : Node) → node_in (retired_state whole) n ≡ Some n
-node_in_retired true n = refl
-node_in_retired false n = refl
-
-pub mark_in_retired : (whole : Bool) (death : ℕ) → mark_in (retired_state whole) death ≡ retired death whole
-mark_in_retired true death = refl
-mark_in_retired false death = refl
 
 -- the mark of a place by its state
 pub mark_by : (s : Place) (st : State) (death : ℕ) → s.state ≡ st → s.death ≡ death → mark_of s ≡ mark_in st death
@@ -243,29 +226,3 @@ module _ (places : List Place) (ff fr ft : Option ℕ) (holds : List Hold) (free
     short = short;
     small = sound.small;
   }
-
--- a place in use whose node is changed has the new node
-pub changed_node : (s d : Place) (n : Node) → node_of d ≡ Some n → s.state ≡ d.state → node_of s ≡ Some (content_of s)
-changed_node s d n node state = node_is_content s.state (content_of s) (by_state d.state s.state state (subst IsSome (sym node) refl))
-  where
-    by_state : (st now : State) → now ≡ st → IsSome (node_in st (content_of d)) → IsSome (node_in now (content_of s))
-    by_state st now e h = subst (λ k. IsSome (node_in k (content_of s))) (sym e) (any st h)
-      where
-        any : (st : State) → IsSome (node_in st (content_of d)) → IsSome (node_in st (content_of s))
-        any Free h = h
-        any Plain h = refl
-        any AsideNode h = refl
-        any AsideTree h = refl
-        any RetiredNode h = refl
-        any RetiredTree h = refl
-
--- each number is in use or free
-pub all_counted : (os : List (Option Node)) → count_by is_some os + count_by is_none os ≡ length os
-all_counted [] = refl
-all_counted (o ∷ os) =
-    let a = sum_by-cons (λ o. cond (is_some o) 1 0) o os in
-    let b = sum_by-cons (λ o. cond (is_none o) 1 0) o os in
-    elim o as (λ o. count_by is_some (o ∷ os) ≡ cond (is_some o) 1 0 + count_by is_some os → count_by is_none (o ∷ os) ≡ cond (is_none o) 1 0 + count_by is_none os → count_by is_some (o ∷ os) + count_by is_none (o ∷ os) ≡ suc (length os)) [
-      | None ↦ λ p q. omega (arith, p, q, all_counted os)
-      | Some n ↦ λ p q. omega (arith, p, q, all_counted os)
-    ] a b

@@ -1,47 +1,20 @@
 -- What a pool shows after the first place of a list left it, and after a place more.
-use Rattle.std.proofs.Common.{◌≡◌, ◌≢◌, ℕ, zero, suc, ◌+◌, ◌<◌, Bool, true, false, cond, List, [], ◌∷◌, ◌++◌, map, length, get_or, set, inl, inr, Option, Some, None, is_some, count_by, refl, sym, ap, ◌∙◌, arith, length-set, true≢false, eqb}
+use Rattle.std.proofs.Common.{◌≡◌, ℕ, zero, suc, ◌+◌, ◌<◌, true, false, cond, List, [], ◌∷◌, ◌++◌, map, length, get_or, set, Option, Some, None, is_some, count_by, refl, sym, ap, ◌∙◌, arith, length-set, true≢false, eqb}
 use Rattle.std.specs.Prelude.{is_none}
-use Rattle.std.proofs.lemmas.Bool.{cases_lt, eqb-true, eq-eqb}
-use Rattle.std.proofs.lemmas.List.{map_push, length-map, length_push, get_or-map, get_or_past, get_or_append_left, get_or_push}
+use Rattle.std.proofs.lemmas.Bool.{eqb-true, eq-eqb}
+use Rattle.std.proofs.lemmas.List.{length-map, length_push, get_or-map, get_or_past}
 use Rattle.std.proofs.lemmas.List.Sums.{sum_by_push}
 use Rattle.gs_pool.specs.declared.nodes.Node.{Node}
-use Rattle.gs_pool.specs.declared.places.Place.{Place}
-use Rattle.gs_pool.specs.declared.places.State.{State}
-use Rattle.gs_pool.specs.declared.places.State.TheVariants.{Free, Plain, AsideNode, AsideTree, RetiredNode, RetiredTree}
+use Rattle.gs_pool.specs.declared.slots.State.TheVariants.{Plain}
 use Rattle.gs_pool.specs.Pool.{Nodes, NodeMark, plain, aside, retired, is_aside, is_retired, Fills}
-use Rattle.gs_pool.specs.Places.{content_of, next_of, node_in, mark_in, is_whole, node_of, mark_of, is_free_place, is_aside_place}
+use Rattle.gs_pool.specs.Places.{Place, content_of, next_of, node_in, is_whole, node_of, mark_of, is_free_place, is_aside_place}
 use Rattle.gs_pool.specs.declared.holds.Hold.{Hold}
 use Rattle.gs_pool.specs.Lists.{place_kind, IsListOf, AreRetired, AreSoundLists}
 use Rattle.gs_pool.proofs.ListLemmas.{list_pop, list_more, none_listed}
+use Rattle.gs_pool.proofs.MapLemmas.{count_shown, shown_last, shown_push, counted_push}
+use Rattle.gs_pool.proofs.StateLemmas.{aside_place, retired_place, free_state}
 use Rattle.gs_pool.proofs.RetireLemmas.{retired_pop, retired_more}
-use Rattle.gs_pool.proofs.PlaceLemmas.{Relists, relists, Writes, writes, mark_by}
-
--- a place marked as set aside is in one of two states
-aside_place : (st : State) (death : ℕ) (n : Node) → is_aside (mark_in st death) ≡ true → (mark_in st death ≡ aside death (is_whole st)) × (node_in st n ≡ Some n)
-aside_place Free death n h = absurd (true≢false (sym h))
-aside_place Plain death n h = absurd (true≢false (sym h))
-aside_place AsideNode death n h = (refl, refl)
-aside_place AsideTree death n h = (refl, refl)
-aside_place RetiredNode death n h = absurd (true≢false (sym h))
-aside_place RetiredTree death n h = absurd (true≢false (sym h))
-
--- a place marked as retired is in one of two states
-pub retired_place : (st : State) (death : ℕ) (n : Node) → is_retired (mark_in st death) ≡ true → (mark_in st death ≡ retired death (is_whole st)) × (node_in st n ≡ Some n)
-retired_place Free death n h = absurd (true≢false (sym h))
-retired_place Plain death n h = absurd (true≢false (sym h))
-retired_place AsideNode death n h = absurd (true≢false (sym h))
-retired_place AsideTree death n h = absurd (true≢false (sym h))
-retired_place RetiredNode death n h = (refl, refl)
-retired_place RetiredTree death n h = (refl, refl)
-
--- a free place is marked as plain
-pub free_state : (st : State) (death : ℕ) (n : Node) → is_none (node_in st n) ≡ true → (mark_in st death ≡ plain) × (node_in st n ≡ None)
-free_state Free death n h = (refl, refl)
-free_state Plain death n h = absurd (true≢false (sym h))
-free_state AsideNode death n h = absurd (true≢false (sym h))
-free_state AsideTree death n h = absurd (true≢false (sym h))
-free_state RetiredNode death n h = absurd (true≢false (sym h))
-free_state RetiredTree death n h = absurd (true≢false (sym h))
+use Rattle.gs_pool.proofs.PlaceLemmas.{Relists, relists, writes, mark_by}
 
 -- the place with this mark is plain again
 pub record Leaves (places : List Place) (id : ℕ) (s d : Place) (m : NodeMark) : Type 0 where
@@ -134,22 +107,6 @@ filled places ff fr ft holds free loose total limit id s d n sound is read node 
       fewer = omega arith;
     }
 
--- what is shown under a number after a place more
-shown_push : {B : Type 0} (show : Place → B) (none : B) (places : List Place) (s : Place) (x : ℕ) → x ≢ length places → get_or (map show (places ++ s ∷ [])) x none ≡ get_or (map show places) x none
-shown_push show none places s x ne =
-    rw (map_push show places s) (elim (cases_lt x (length places)) [
-      | inl here ↦ get_or_append_left (map show places) (show s ∷ []) none x (omega (arith, length-map places show))
-      | inr past ↦ get_or_past (map show places ++ show s ∷ []) x none (omega (arith, length-map places show, length_push (map show places) (show s))) ∙ sym (get_or_past (map show places) x none (omega (arith, length-map places show)))
-    ])
-
--- what is shown under the new number
-shown_last : {B : Type 0} (show : Place → B) (none : B) (places : List Place) (s : Place) → get_or (map show (places ++ s ∷ [])) (length places) none ≡ show s
-shown_last show none places s = rw (map_push show places s) (get_or_push (map show places) (show s) none (length places) (length-map places show))
-
--- how many pass a test after a place more
-counted_push : {B : Type 0} (test : B → Bool) (show : Place → B) (places : List Place) (s : Place) → count_by test (map show (places ++ s ∷ [])) ≡ count_by test (map show places) + cond (test (show s)) 1 0
-counted_push test show places s = rw (map_push show places s) (sum_by_push (λ o. cond (test o) 1 0) (map show places) (show s))
-
 -- a place more gets a node
 pub record Pushed (places : List Place) (limit : ℕ) (s : Place) (n : Node) : Type 0 where
   pub fills : (old new : Nodes) → old.nodes ≡ map node_of places → old.marks ≡ map mark_of places → new.nodes ≡ map node_of (places ++ s ∷ []) → new.marks ≡ map mark_of (places ++ s ∷ []) → new.limit ≡ limit → Fills old new (length places) n
@@ -157,7 +114,7 @@ pub record Pushed (places : List Place) (limit : ℕ) (s : Place) (n : Node) : T
 
 pub pushed : (places : List Place) (ff fr ft : Option ℕ) (holds : List Hold) (free loose total limit : ℕ) (s : Place) (n : Node) → AreSoundLists places ff fr ft holds free loose total limit → ff ≡ None → length places < limit → node_of s ≡ Some n → mark_of s ≡ plain → Pushed places limit s n
 pushed places ff fr ft holds free loose total limit s n sound none room node mark =
-    let full : count_by is_none (map node_of places) ≡ 0 = Rattle.gs_pool.proofs.PlaceLemmas.count_shown is_none node_of places ∙ none_listed next_of is_free_place places ff sound.free_list none in
+    let full : count_by is_none (map node_of places) ≡ 0 = count_shown is_none node_of places ∙ none_listed next_of is_free_place places ff sound.free_list none in
     let same : (x : ℕ) → get_or (map mark_of (places ++ s ∷ [])) x plain ≡ get_or (map mark_of places) x plain = λ x. elim (eqb x (length places)) as (λ b. eqb x (length places) ≡ b → get_or (map mark_of (places ++ s ∷ [])) x plain ≡ get_or (map mark_of places) x plain) [
       | true ↦ λ e.
           let at : x ≡ length places = eqb-true x (length places) e in

@@ -1,10 +1,9 @@
 -- The lists that run through the places of a `Pool`, and its invariant. No public clause cites this module.
 use Rattle.std.specs.Prelude.{◌≡◌, ℕ, ◌+◌, ◌≤◌, Bool, true, false, ◌&&◌, nat_le, nat_lt, List, [], ◌∷◌, map, length, Option, Some, None, is_some, count_by, slice_get, slice_index_or, if◌then◌else◌, ◌==◌}
 use Rattle.std.specs.List.{sum_by}
-use Rattle.gs_pool.specs.declared.places.Place.{Place}
 use Rattle.gs_pool.specs.declared.holds.Hold.{Hold}
 use Rattle.gs_model.specs.Limits.{last_node}
-use Rattle.gs_pool.specs.Places.{next_of, is_free_place, is_aside_place, is_retired_place}
+use Rattle.gs_pool.specs.Places.{Place, next_of, is_free_place, is_aside_place, is_retired_place}
 
 -- the version of a hold's pin
 abbrev pub pin_of : Hold → Option ℕ
@@ -44,7 +43,7 @@ pub record Kind (A : Type 0) : Type 0 where
 
 -- the places of a pool
 abbrev pub place_kind : Kind Place
-place_kind = record { next = next_of; is_retired = is_retired_place; birth = λ s. s.birth; death = λ s. s.death }
+place_kind = record { next = next_of; is_retired = is_retired_place; birth = λ s. s.node.birth; death = λ s. s.death }
 
 -- the elements named by these numbers pass the test, and each names the next
 abbrev pub IsChain : {A : Type 0} → (A → Option ℕ) → (A → Bool) → List A → Option ℕ → List ℕ → Type 0

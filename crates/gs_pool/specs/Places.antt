@@ -1,22 +1,62 @@
--- How a `Pool` lays out its nodes. No public clause cites this module.
-use Rattle.std.specs.Prelude.{ℕ, Bool, true, false, Option, Some, None, is_none, if◌then◌else◌}
+-- What a `Pool` knows of its places. No public clause cites this module.
+use Rattle.std.specs.Prelude.{ℕ, Bool, true, false, List, [], ◌∷◌, ◌++◌, slice_set, slice_index_or, Option, Some, None, is_none, if◌then◌else◌}
 use Rattle.gs_pool.specs.declared.nodes.Node.{Node}
-use Rattle.gs_pool.specs.declared.places.Place.{Place}
-use Rattle.gs_pool.specs.declared.places.State.{State}
-use Rattle.gs_pool.specs.declared.places.State.TheVariants.{Free, Plain, AsideNode, AsideTree, RetiredNode, RetiredTree}
+use Rattle.gs_pool.specs.declared.nodes.Retired.{Retired}
+use Rattle.gs_pool.specs.declared.slots.State.{State}
+use Rattle.gs_pool.specs.declared.slots.State.TheVariants.{Free, Plain, AsideNode, AsideTree, RetiredNode, RetiredTree}
 use Rattle.gs_pool.specs.Pool.{NodeMark, plain, aside, retired, is_aside, is_retired}
 
--- a number, where there is one
-abbrev pub number_where : Bool → ℕ → Option ℕ
-number_where has id = if has then Some id else None
+-- what a place is used for, its node, whether it is in use or not, its death, and the next place of the list that it is on
+pub record Place : Type 0 where
+  pub state : State
+  pub node : Node
+  pub death : ℕ
+  pub next : Option ℕ
+
+-- the places, by number, and for how many there is room
+pub record PlaceList : Type 0 where
+  pub items : List Place
+  pub capacity : ℕ
+
+-- a node, which stands where a place has none
+abbrev pub no_node : Node
+no_node = record { key = record { subject = 0; predicate = 0; object = 0 }; left = None; right = None; height = 0; birth = 0 }
+
+-- a free place, with the next one
+abbrev pub free_place : Option ℕ → Place
+free_place next = record { state = Free; node = no_node; death = 0; next = next }
+
+-- a place in use that is on no list
+abbrev pub plain_place : Node → Place
+plain_place n = record { state = Plain; node = n; death = 0; next = None }
+
+-- a place at the head of a list
+abbrev pub listed_place : State → Node → ℕ → Option ℕ → Place
+listed_place state n death next = record { state = state; node = n; death = death; next = next }
+
+-- the place of a number: past the end there is none, which is as a free one
+abbrev pub place_at : PlaceList → ℕ → Place
+place_at ps id = slice_index_or ps.items id (free_place None)
+
+-- the same place, with another next one
+abbrev pub relinked : Place → Option ℕ → Place
+relinked s next = listed_place s.state s.node s.death next
+
+-- the places, with another one under a number
+abbrev pub with_place : PlaceList → ℕ → Place → PlaceList
+with_place ps id s = record { items = slice_set ps.items id s; capacity = ps.capacity }
+
+-- the places, and one more
+abbrev pub with_more : PlaceList → Place → PlaceList
+with_more ps s = record { items = ps.items ++ s ∷ []; capacity = ps.capacity }
 
 -- the node of a place, whether it is in use or not
 abbrev pub content_of : Place → Node
-content_of s = record { key = s.key; left = number_where s.has_left s.left; right = number_where s.has_right s.right; height = s.height; birth = s.birth }
+content_of s = s.node
 
 -- the next place of the list that a place is on
 abbrev pub next_of : Place → Option ℕ
-next_of s = number_where s.has_next s.next
+next_of s = s.next
 
 -- a node in this state, where the state is not free
 abbrev pub node_in : State → Node → Option Node
@@ -45,6 +85,15 @@ is_plain_state AsideTree = false
 is_plain_state RetiredNode = false
 is_plain_state RetiredTree = false
 
+-- whether the state is that of a node that is set aside or retired
+abbrev pub is_listed : State → Bool
+is_listed Free = false
+is_listed Plain = false
+is_listed AsideNode = true
+is_listed AsideTree = true
+is_listed RetiredNode = true
+is_listed RetiredTree = true
+
 -- whether the state is that of a node that stands for all below it too
 abbrev pub is_whole : State → Bool
 is_whole Free = false
@@ -53,6 +102,10 @@ is_whole AsideNode = false
 is_whole AsideTree = true
 is_whole RetiredNode = false
 is_whole RetiredTree = true
+
+-- what a list says of the place of a number
+abbrev pub entry_of : ℕ → Place → Retired
+entry_of id s = record { id = id; death = s.death; whole = is_whole s.state }
 
 -- the state of a node set aside, alone or with all below it
 abbrev pub aside_state : Bool → State

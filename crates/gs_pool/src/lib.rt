@@ -1,4 +1,4 @@
-//! Nodes named by number in one vector, with lists through the nodes: free, aside, retired.
+//! Nodes named by number, with lists through them: free, aside, retired.
 #![tactic(auto)]
 
 mod holds;
@@ -6,6 +6,8 @@ mod lists;
 mod nodes;
 mod places;
 mod pools;
+mod slots;
+mod tails;
 
 pub use nodes::{Key, Node, Retired};
 pub use pools::Pool;

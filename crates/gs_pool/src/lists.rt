@@ -7,8 +7,8 @@ ghost use Rattle.gs_pool.specs.Held.{IsNeededBy, AreHeld, let_go, KeepsLists, Gi
 
 use crate::holds::Hold;
 use crate::nodes::Retired;
-use crate::places::State;
 use crate::pools::Pool;
+use crate::slots::State;
 use gs_versions::lies_in;
 
 impl Pool {
@@ -22,9 +22,9 @@ impl Pool {
         ensures loose { self.new.loose ≡ self.old.loose + 1 }
         ensures pins { self.new.pins ≡ self.old.pins }
     {
-        let place = self.places[entry.id as usize];
         let state = State::retired(entry.whole);
-        self.places[entry.id as usize] = place.with_state(state, entry.death, self.first_retired);
+        self.places
+            .list(entry.id, state, entry.death, self.first_retired);
         self.first_retired = Some(entry.id);
         self.loose += 1;
         self.retired += 1;
@@ -68,16 +68,11 @@ impl Pool {
         ensures aside { aside_count self.new ≡ aside_count self.old }
     {
         let id = self.first_retired?;
-        let place = self.places[id as usize];
-        self.first_retired = place.next();
+        let (taken, next) = self.places.unlist(id);
+        self.first_retired = next;
         self.loose -= 1;
         self.retired -= 1;
-        self.places[id as usize] = place.with_state(State::Plain, 0, None);
-        Some(Retired {
-            id,
-            death: place.death,
-            whole: place.is_whole(),
-        })
+        Some(taken)
     }
 
     /// Whether a node is retired, held or not.
@@ -128,10 +123,9 @@ impl Pool {
         ensures held { KeepsLists self.old self.new list }
         ensures own { slice_index_or self.new.held list 0 ≡ slice_index_or self.old.held list 0 + 1 }
     {
-        let place = self.places[entry.id as usize];
         let hold = self.holds[list];
         let state = State::retired(entry.whole);
-        self.places[entry.id as usize] = place.with_state(state, entry.death, hold.first);
+        self.places.list(entry.id, state, entry.death, hold.first);
         self.holds[list] = hold.with_first(entry.id);
         self.retired += 1;
     }
@@ -158,8 +152,7 @@ impl Pool {
         let Some(first) = hold.first else {
             return;
         };
-        let place = self.places[hold.last as usize];
-        self.places[hold.last as usize] = place.with_next(self.first_retired);
+        self.places.relink(hold.last, self.first_retired);
         self.first_retired = Some(first);
         self.loose += hold.count;
     }
@@ -184,8 +177,7 @@ impl Pool {
             return;
         }
         let onto = self.holds[other];
-        let place = self.places[hold.last as usize];
-        self.places[hold.last as usize] = place.with_next(onto.first);
+        self.places.relink(hold.last, onto.first);
         self.holds[list] = Hold::empty(hold.pin);
         self.holds[other] = hold.joined(onto);
     }

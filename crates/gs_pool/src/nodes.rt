@@ -15,7 +15,7 @@ pub struct Node {
     pub key: Key,
     pub left: Option<u32>,
     pub right: Option<u32>,
-    pub height: u32,
+    pub height: u16,
     pub birth: u64,
 }
 

@@ -9,7 +9,8 @@ ghost use Rattle.gs_pool.specs.Lists.{empty_hold};
 
 use crate::holds::Hold;
 use crate::nodes::{Node, Retired};
-use crate::places::{Place, State};
+use crate::places::Places;
+use crate::slots::State;
 use gs_model::LAST_NODE;
 use std::alloc::{AllocError, Global};
 use std::marker::Model;
@@ -20,7 +21,7 @@ use std::marker::Model;
 /// gives none of them until `follow` says that the pin has ended.
 #[derive(Drop)]
 pub struct Pool {
-    pub(crate) places: Vec<Place>,
+    pub(crate) places: Places,
     first_free: Option<u32>,
     first_aside: Option<u32>,
     pub(crate) first_retired: Option<u32>,
@@ -34,7 +35,7 @@ pub struct Pool {
 }
 
 impl Model for Pool {
-    ghost use Rattle.std.specs.Prelude.{◌-◌, map, min, vec_len, vec_capacity};
+    ghost use Rattle.std.specs.Prelude.{◌-◌, map, min, length};
     ghost use Rattle.gs_pool.specs.Pool.{Nodes};
 
     ghost Value = { Nodes };
@@ -45,7 +46,7 @@ impl Model for Pool {
     ghost view = { λ p. record {
       nodes = map node_of p.places.items;
       marks = map mark_of p.places.items;
-      spare = min (vec_capacity p.places) p.limit - vec_len p.places;
+      spare = min p.places.capacity p.limit - length p.places.items;
       limit = p.limit;
       loose = p.loose;
       pins = map pin_of p.holds.items;
@@ -92,7 +93,7 @@ impl Pool {
         ensures pins { result.pins ≡ replicate (length holds.items) None }
     {
         Pool {
-            places: Vec::new(alloc),
+            places: Places::new(alloc),
             first_free: None,
             first_aside: None,
             first_retired: None,
@@ -119,20 +120,14 @@ impl Pool {
     pub fn is_plain(&self, id: u32) -> bool
         ensures { Decides result (IsPlain self.now id) }
     {
-        match self.places.get(id as usize) {
-            Some(place) => place.is_plain(),
-            None => false,
-        }
+        self.places.is_plain(id)
     }
 
     /// Whether a number's node is in use, whatever its mark.
     pub fn is_in_use(&self, id: u32) -> bool
         ensures { Decides result (IsSome (node_at self.now id)) }
     {
-        let Some(place) = self.places.get(id as usize) else {
-            return false;
-        };
-        place.is_used()
+        self.places.is_used(id)
     }
 
     /// The node of a number, whatever its mark.
@@ -140,7 +135,7 @@ impl Pool {
         requires { IsSome (node_at self.now id) }
         ensures { node_at self.now id ≡ Some result }
     {
-        self.places[id as usize].node()
+        self.places.node(id)
     }
 
     /// Makes room for `more` nodes. Where there is room already, nothing changes; memory is asked for
@@ -163,7 +158,7 @@ impl Pool {
         if self.limit - self.places.len() < missing {
             return Err(AllocError);
         }
-        if missing <= self.places.capacity() - self.places.len() {
+        if missing <= self.places.spare() {
             return Ok(());
         }
         self.places.reserve(missing)
@@ -189,17 +184,16 @@ impl Pool {
         ensures room { room self.new + 1 ≡ room self.old }
         ensures limit { self.new.limit ≡ self.old.limit }
     {
-        let place = Place::plain(node);
         match self.first_free {
             Some(id) => {
-                self.first_free = self.places[id as usize].next();
-                self.places[id as usize] = place;
+                self.first_free = self.places.next_free(id);
+                self.places.put(id, node);
                 self.free -= 1;
                 id
             }
             None => {
                 let id = self.places.len() as u32;
-                self.places.push_reserved(place);
+                self.places.push(node);
                 id
             }
         }
@@ -216,8 +210,7 @@ impl Pool {
         ensures in_use { in_use self.new ≡ in_use self.old }
         ensures limit { self.new.limit ≡ self.old.limit }
     {
-        let place = self.places[id as usize];
-        self.places[id as usize] = place.with_node(node);
+        self.places.put(id, node);
     }
 
     /// Gives the number of a plain node back. Takes no memory.
@@ -234,8 +227,7 @@ impl Pool {
         ensures loose { self.new.loose ≡ self.old.loose }
         ensures pins { self.new.pins ≡ self.old.pins }
     {
-        let place = self.places[id as usize];
-        self.places[id as usize] = place.with_state(State::Free, 0, self.first_free);
+        self.places.free(id, self.first_free);
         self.first_free = Some(id);
         self.free += 1;
     }
@@ -251,9 +243,9 @@ impl Pool {
         ensures loose { self.new.loose ≡ self.old.loose }
         ensures pins { self.new.pins ≡ self.old.pins }
     {
-        let place = self.places[entry.id as usize];
         let state = State::aside(entry.whole);
-        self.places[entry.id as usize] = place.with_state(state, entry.death, self.first_aside);
+        self.places
+            .list(entry.id, state, entry.death, self.first_aside);
         self.first_aside = Some(entry.id);
     }
 
@@ -291,13 +283,8 @@ impl Pool {
         ensures pins { self.new.pins ≡ self.old.pins }
     {
         let id = self.first_aside?;
-        let place = self.places[id as usize];
-        self.first_aside = place.next();
-        self.places[id as usize] = place.with_state(State::Plain, 0, None);
-        Some(Retired {
-            id,
-            death: place.death,
-            whole: place.is_whole(),
-        })
+        let (taken, next) = self.places.unlist(id);
+        self.first_aside = next;
+        Some(taken)
     }
 }

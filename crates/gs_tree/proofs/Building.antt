@@ -109,10 +109,10 @@ module _ (birth : ℕ) (p p1 p2 p3 : Nodes) (left right : Option ℕ) (top : ℕ
   pub built_used : IsSome (node_at p3 top)
   built_used = top_writable.used
 
-  pub built_left : length run < 2 ^ 64 → (Rattle.gs_tree.specs.Tree.IsRoot p3 left) × (height_at p3 left < 2 ^ 31)
+  pub built_left : length run < 2 ^ 64 → (Rattle.gs_tree.specs.Tree.IsRoot p3 left) × (height_at p3 left < 2 ^ 15)
   built_left small = (root_in p3 left l a.root left_there, omega (arith, height_in p3 left l a.root left_there, low_digits (height l) (length low) (omega (arith, lengths)) a.high))
 
-  pub built_right : length run < 2 ^ 64 → (Rattle.gs_tree.specs.Tree.IsRoot p3 right) × (height_at p3 right < 2 ^ 31)
+  pub built_right : length run < 2 ^ 64 → (Rattle.gs_tree.specs.Tree.IsRoot p3 right) × (height_at p3 right < 2 ^ 15)
   built_right small = (root_in p3 right r b.root b.stands, omega (arith, height_in p3 right r b.root b.stands, low_digits (height r) (length high) (omega (arith, lengths)) b.high))
 
   pub built : (p4 : Nodes) → Links p3 p4 top left key right birth → Built birth p p4 (Some top) run (tree_at p4 (Some top))

@@ -7,7 +7,7 @@ use Rattle.gs_pool.specs.declared.nodes.Key.{Key}
 use Rattle.gs_pool.specs.declared.nodes.Node.{Node}
 use Rattle.gs_pool.specs.Pool.{Nodes, plain, node_at, mark_at, room}
 use Rattle.gs_tree.specs.Keys.{IsRising, merge_keys}
-use Rattle.gs_tree.specs.Tree.{Tree, leaf, fork, height, keys, occurrences, Stands, IsBalanced, BirthAtMost, Descends, height_at, tree_at, older_birth, older_count}
+use Rattle.gs_tree.specs.Tree.{Tree, fork, height, keys, occurrences, Stands, IsBalanced, BirthAtMost, Descends, height_at, tree_at, older_birth, older_count}
 use Rattle.gs_tree.specs.Sets.{IsSet, union_cost}
 use Rattle.gs_tree.specs.Steps.{plain_count, one, Step, IsOlder, CopiesIfOlder}
 use Rattle.gs_tree.specs.Joining.{CanJoin, Settled, copies, joins, IsHeightAfter, KeepsHeight}
@@ -36,7 +36,7 @@ side_kept was now zero same grown = same refl
 side_kept was now (suc n) same grown = grown (omega arith)
 
 -- a tree of few keys is low
-pub fits : (t : Tree) → IsBalanced t → length (keys t) < 2 ^ 65 → height t < 2 ^ 30
+pub fits : (t : Tree) → IsBalanced t → length (keys t) < 2 ^ 65 → height t < 2 ^ 14
 fits t b small = omega (arith, height_digits t 65 b (omega (arith, size-keys t)))
 
 same_step : (since birth : ℕ) (p : Nodes) (f : ℕ → ℕ) → Step since birth p p f f

@@ -17,7 +17,7 @@ use Rattle.gs_tree.proofs.Costs.{copies_most}
 use Rattle.gs_tree.proofs.Counting.{same_marks}
 
 -- the whole of a removal
-pub remove_can : (cmp : Key → Key → Ordering) (since : ℕ) (p q : Nodes) (root : Option ℕ) (t : Tree) → IsSet cmp p root t → q.nodes ≡ p.nodes → q.marks ≡ p.marks → height t < 2 ^ 29 → min (remove_cost since (height t)) (older_count since t) ≤ room q → (tree_at q root ≡ t) × CanShrink since q root (tree_at q root)
+pub remove_can : (cmp : Key → Key → Ordering) (since : ℕ) (p q : Nodes) (root : Option ℕ) (t : Tree) → IsSet cmp p root t → q.nodes ≡ p.nodes → q.marks ≡ p.marks → height t < 2 ^ 13 → min (remove_cost since (height t)) (older_count since t) ≤ room q → (tree_at q root ≡ t) × CanShrink since q root (tree_at q root)
 remove_can cmp since p q root t s same drop fits enough =
     let alike : (x : ℕ) → plain_count q x ≡ plain_count p x = λ x. plain_count_same p q x (ap (λ xs. Rattle.std.proofs.Common.get_or xs x None) same) (ap (λ ms. Rattle.std.proofs.Common.get_or ms x plain) drop) in
     let stands = Stands-same p q t (λ x n h e. ap (λ xs. Rattle.std.proofs.Common.get_or xs x None) same ∙ e) s.stands in

@@ -19,8 +19,8 @@ pub record CanSettle (since : ℕ) (p : Nodes) (top : ℕ) (left : Option ℕ) (
   pub right_balanced : IsBalanced r
   pub apart : (x : ℕ) → one top x + occurrences l x + occurrences r x ≤ plain_count p x
   pub writable : IsWritable since p top
-  pub left_fits : height l < 2 ^ 30
-  pub right_fits : height r < 2 ^ 30
+  pub left_fits : height l < 2 ^ 14
+  pub right_fits : height r < 2 ^ 14
   pub has_room : min (copies since 2) (older_count since l + older_count since r) ≤ room p
 
 -- the height h that trees of these heights settle to

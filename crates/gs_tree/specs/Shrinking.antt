@@ -38,7 +38,7 @@ pub record CanShrink (since : ℕ) (p : Nodes) (root : Option ℕ) (t : Tree) : 
   pub stands : Stands p t
   pub balanced : IsBalanced t
   pub apart : (x : ℕ) → occurrences t x ≤ plain_count p x
-  pub fits : height t < 2 ^ 29
+  pub fits : height t < 2 ^ 13
   pub has_room : min (remove_cost since (height t)) (older_count since t) ≤ room p
 
 -- the tree that a root means can lose a key

@@ -8,7 +8,7 @@ ghost use Rattle.gs_tree.specs.Joining.{CanSettleAt, CanJoinAt, SettledAt, Keeps
 use gs_pool::{Key, Node, Pool};
 
 /// The height of a tree.
-pub fn height_of(pool: &Pool, root: Option<u32>) -> u32
+pub fn height_of(pool: &Pool, root: Option<u32>) -> u16
     requires { IsRoot pool.now root }
     ensures { result ≡ height_at pool.now root }
 {
@@ -40,8 +40,8 @@ pub fn link(pool: &mut Pool, id: u32, left: Option<u32>, key: Key, right: Option
     requires right { IsRoot pool.old right }
     requires used { IsSome (node_at pool.old id) }
     requires unlisted { mark_at pool.old id ≡ plain }
-    requires left_fits { height_at pool.old left < 2 ^ 31 }
-    requires right_fits { height_at pool.old right < 2 ^ 31 }
+    requires left_fits { height_at pool.old left < 2 ^ 15 }
+    requires right_fits { height_at pool.old right < 2 ^ 15 }
     ensures { Links pool.old pool.new id left key right birth }
 {
     let height = height_of(pool, left).max(height_of(pool, right)) + 1;
@@ -200,7 +200,7 @@ fn relink(
     left: Option<u32>,
     key: Key,
     right: Option<u32>,
-    height: u32,
+    height: u16,
     birth: u64,
 )
     requires used { IsSome (node_at pool.old id) }
@@ -228,7 +228,7 @@ pub fn rejoin(
     top: u32,
     key: Key,
     right: Option<u32>,
-    kept: Option<u32>,
+    kept: Option<u16>,
     since: u64,
     birth: u64,
 ) -> u32

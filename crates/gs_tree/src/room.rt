@@ -8,7 +8,7 @@ use crate::balance::height_of;
 use gs_pool::Pool;
 
 // How many nodes a tree has at most, by its height and by the nodes in use.
-fn size_bound(used: usize, height: u32) -> usize
+fn size_bound(used: usize, height: u16) -> usize
     requires { used < 2 ^ 32 }
     ensures { result ≡ min used (2 ^ height - 1) }
 {

@@ -149,7 +149,7 @@ fn cut_at<'a, O: KeyOrder>(order: &O, run: &'a [Key], key: Key) -> (&'a [Key], &
 }
 
 // Whether a side is as high as it was. One that gained no key is not read.
-fn is_as_high(pool: &Pool, side: Merged, before: u32) -> bool
+fn is_as_high(pool: &Pool, side: Merged, before: u16) -> bool
     requires { IsRoot pool.now side.root }
     ensures { result ≡ true → IsAsHigh pool.now side before }
 {
@@ -159,12 +159,12 @@ fn is_as_high(pool: &Pool, side: Merged, before: u32) -> bool
 // The height that a node keeps, where both sides are as high as they were.
 fn kept_height(
     pool: &Pool,
-    height: u32,
+    height: u16,
     left: Merged,
-    left_before: u32,
+    left_before: u16,
     right: Merged,
-    right_before: u32,
-) -> Option<u32>
+    right_before: u16,
+) -> Option<u16>
     requires left { IsRoot pool.now left.root }
     requires right { IsRoot pool.now right.root }
     ensures height { IfSome result (λ h. h ≡ height) }

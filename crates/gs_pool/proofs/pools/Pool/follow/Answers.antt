@@ -1,6 +1,9 @@
-use Rattle.std.proofs.Common.{sym, ap, ◌∙◌, arith, get_or}
+use Rattle.std.proofs.Common.{None, refl, sym, ap, ◌∙◌, arith, get_or}
 use Rattle.std.proofs.lemmas.List.{length-map}
+use Rattle.gs_pool.specs.Places.{place_at, free_place, relinked}
 use Rattle.gs_pool.specs.Lists.{pin_of, hold_count}
+use Rattle.gs_pool.proofs.MapLemmas.{at_itself}
+use Rattle.gs_pool.proofs.StateLemmas.{retired_listed}
 use Rattle.gs_pool.proofs.FollowLemmas.{emptied_sound, released_sound, few_held, has_last, nodes_same, marks_same, pins_set, pins_follow, none_let_go, all_let_go, none_counted, counts_else, counts_own, held_shown}
 use Rattle.gs_pool.proofs.pools.Pool.follow.Goals as goal
 
@@ -17,29 +20,18 @@ invariant_of-self c =
 pub returns-in_default-clause-pins : goal.returns-in_default-clause-pins
 returns-in_default-clause-pins c = rw (← c.self.view_is) (pins_set c.self.inside.holds.items c.args.list c.empty.result c.args.pin (ap pin_of c.empty.ensures))
 
-pub overflow_cast-hold : goal.overflow_cast-hold
-overflow_cast-hold c =
+pub relink-requires-clause-within : goal.relink-requires-clause-within
+relink-requires-clause-within c =
     let lt = rw (← c.self.view_is, length-map c.self.inside.holds.items pin_of) at c.requires in
     let last = has_last _ _ _ _ _ _ _ _ _ c.args.list c.index.result.now c.self.invariant lt c.index.ensures c.in-Some.first c.in-Some.is in
-    omega (arith, last.within, c.self.invariant.short, c.self.invariant.small)
+    omega (arith, last.within)
 
-pub index-place-requires : goal.index-place-requires
-index-place-requires c =
+pub relink-requires-clause-listed : goal.relink-requires-clause-listed
+relink-requires-clause-listed c =
     let lt = rw (← c.self.view_is, length-map c.self.inside.holds.items pin_of) at c.requires in
     let last = has_last _ _ _ _ _ _ _ _ _ c.args.list c.index.result.now c.self.invariant lt c.index.ensures c.in-Some.first c.in-Some.is in
-    omega (arith, last.within, c.self.inside.places.ok.0)
-
-pub overflow_cast-hold-2 : goal.overflow_cast-hold-2
-overflow_cast-hold-2 c =
-    let lt = rw (← c.self.view_is, length-map c.self.inside.holds.items pin_of) at c.requires in
-    let last = has_last _ _ _ _ _ _ _ _ _ c.args.list c.index.result.now c.self.invariant lt c.index.ensures c.in-Some.first c.in-Some.is in
-    omega (arith, last.within, c.self.invariant.short, c.self.invariant.small)
-
-pub index_mut-requires-2 : goal.index_mut-requires-2
-index_mut-requires-2 c =
-    let lt = rw (← c.self.view_is, length-map c.self.inside.holds.items pin_of) at c.requires in
-    let last = has_last _ _ _ _ _ _ _ _ _ c.args.list c.index.result.now c.self.invariant lt c.index.ensures c.in-Some.first c.in-Some.is in
-    omega (arith, last.within, c.self.inside.places.ok.0)
+    let d = place_at c.self.inside.places c.index.result.now.last in
+    retired_listed d.state d.death (last.retired d (at_itself c.self.inside.places.items c.index.result.now.last (free_place None)))
 
 pub overflow_add-self : goal.overflow_add-self
 overflow_add-self c =
@@ -49,17 +41,17 @@ overflow_add-self c =
 pub invariant_of-self-2 : goal.invariant_of-self-2
 invariant_of-self-2 c =
     let lt = rw (← c.self.view_is, length-map c.self.inside.holds.items pin_of) at c.requires in
-    rw c.empty.ensures (released_sound _ _ _ _ _ _ _ _ _ c.args.list c.index.result.now c.self.invariant lt c.index.ensures c.args.pin c.in-Some.first c.with_next.result c.index-place.result.now c.in-Some.is c.index-place.ensures c.with_next.ensures.content c.with_next.ensures.state c.with_next.ensures.death c.with_next.ensures.next)
+    rw (c.relink.ensures, c.empty.ensures) (released_sound _ _ _ _ _ _ _ _ _ c.args.list c.index.result.now c.self.invariant lt c.index.ensures c.args.pin c.in-Some.first (relinked (place_at c.self.inside.places c.index.result.now.last) c.self.inside.first_retired) (place_at c.self.inside.places c.index.result.now.last) c.in-Some.is (at_itself c.self.inside.places.items c.index.result.now.last (free_place None)) refl refl refl refl)
 
 pub returns-clause-nodes : goal.returns-clause-nodes
 returns-clause-nodes c =
     let lt = rw (← c.self.view_is, length-map c.self.inside.holds.items pin_of) at c.requires in
-    rw (← c.self.view_is) (nodes_same _ _ _ _ _ _ _ _ _ c.args.list c.index.result.now c.self.invariant lt c.index.ensures c.with_next.result c.index-place.result.now c.index-place.ensures c.with_next.ensures.content c.with_next.ensures.state)
+    rw (← c.self.view_is, c.relink.ensures) (nodes_same _ _ _ _ _ _ _ _ _ c.args.list c.index.result.now c.self.invariant lt c.index.ensures (relinked (place_at c.self.inside.places c.index.result.now.last) c.self.inside.first_retired) (place_at c.self.inside.places c.index.result.now.last) (at_itself c.self.inside.places.items c.index.result.now.last (free_place None)) refl refl)
 
 pub returns-clause-marks : goal.returns-clause-marks
 returns-clause-marks c =
     let lt = rw (← c.self.view_is, length-map c.self.inside.holds.items pin_of) at c.requires in
-    rw (← c.self.view_is) (marks_same _ _ _ _ _ _ _ _ _ c.args.list c.index.result.now c.self.invariant lt c.index.ensures c.with_next.result c.index-place.result.now c.index-place.ensures c.with_next.ensures.state c.with_next.ensures.death)
+    rw (← c.self.view_is, c.relink.ensures) (marks_same _ _ _ _ _ _ _ _ _ c.args.list c.index.result.now c.self.invariant lt c.index.ensures (relinked (place_at c.self.inside.places c.index.result.now.last) c.self.inside.first_retired) (place_at c.self.inside.places c.index.result.now.last) (at_itself c.self.inside.places.items c.index.result.now.last (free_place None)) refl refl)
 
 pub returns-clause-pins : goal.returns-clause-pins
 returns-clause-pins c = rw (← c.self.view_is) (pins_set c.self.inside.holds.items c.args.list c.empty.result c.args.pin (ap pin_of c.empty.ensures))

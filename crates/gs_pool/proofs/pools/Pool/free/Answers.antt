@@ -1,67 +1,73 @@
-use Rattle.std.proofs.Common.{sym, ap, arith, ◌∙◌, is_some, get_or}
-use Rattle.std.specs.Prelude.{is_none}
-use Rattle.gs_pool.specs.declared.places.State.TheVariants.{Free}
+use Rattle.std.proofs.Common.{refl, sym, ap, arith, is_some, get_or}
 use Rattle.gs_pool.specs.Pool.{plain}
-use Rattle.gs_pool.specs.Places.{content_of, node_in}
-use Rattle.gs_pool.proofs.PlaceLemmas.{is_used, mark_by, writes, freed_sound}
+use Rattle.gs_pool.specs.Places.{place_at, free_place}
+use Rattle.gs_pool.proofs.StateLemmas.{unlisted_state}
+use Rattle.gs_pool.proofs.PlaceLemmas.{is_plain_at, writes, freed_sound}
 use Rattle.gs_pool.proofs.ShownLemmas.{marks_kept, numbers_kept}
 use Rattle.gs_pool.proofs.pools.Pool.free.Goals as goal
 
+pub free-requires-clause-within : goal.free-requires-clause-within
+free-requires-clause-within c =
+    let u = is_plain_at c.self.inside.places.items c.args.id (rw (← c.self.view_is) at c.requires.used) (rw (← c.self.view_is) at c.requires.unlisted) in
+    u.used.within
+
+pub free-requires-clause-unlisted : goal.free-requires-clause-unlisted
+free-requires-clause-unlisted c =
+    let d = place_at c.self.inside.places c.args.id in
+    let u = is_plain_at c.self.inside.places.items c.args.id (rw (← c.self.view_is) at c.requires.used) (rw (← c.self.view_is) at c.requires.unlisted) in
+    unlisted_state d.state d.death u.unlisted
+
 pub invariant_of-self : goal.invariant_of-self
 invariant_of-self c =
-    let s = c.with_state.result in
-    let d = c.index-place.result.now in
-    let u = is_used c.self.inside.places.items c.args.id d c.index-place.ensures (rw (← c.self.view_is) at c.requires.used) in
-    let unlisted = sym u.mark ∙ (rw (← c.self.view_is) at c.requires.unlisted) in
-    let mark = mark_by s Free 0 c.with_state.ensures.state c.with_state.ensures.death in
-    freed_sound _ _ _ _ _ _ _ _ _ _ s d c.self.invariant c.index-place.ensures u.within u.not_free unlisted (ap (λ k. is_none (node_in k (content_of s))) c.with_state.ensures.state) mark c.with_state.ensures.next
+    let s = free_place c.self.inside.first_free in
+    let d = place_at c.self.inside.places c.args.id in
+    let u = is_plain_at c.self.inside.places.items c.args.id (rw (← c.self.view_is) at c.requires.used) (rw (← c.self.view_is) at c.requires.unlisted) in
+    rw c.free.ensures (freed_sound _ _ _ _ _ _ _ _ _ _ s d c.self.invariant u.read u.used.within u.used.not_free u.unlisted refl refl refl)
 
 pub returns-clause-updates : goal.returns-clause-updates
 returns-clause-updates c =
-    let s = c.with_state.result in
-    let d = c.index-place.result.now in
-    let u = is_used c.self.inside.places.items c.args.id d c.index-place.ensures (rw (← c.self.view_is) at c.requires.used) in
-    let w = writes c.self.inside.places.items c.args.id s d u.within c.index-place.ensures in
-    rw (← c.self.view_is) record {
-      changed = w.node ∙ ap (λ k. node_in k (content_of s)) c.with_state.ensures.state;
+    let s = free_place c.self.inside.first_free in
+    let d = place_at c.self.inside.places c.args.id in
+    let u = is_plain_at c.self.inside.places.items c.args.id (rw (← c.self.view_is) at c.requires.used) (rw (← c.self.view_is) at c.requires.unlisted) in
+    let w = writes c.self.inside.places.items c.args.id s d u.used.within u.read in
+    rw (← c.self.view_is, c.free.ensures) record {
+      changed = w.node;
       others = λ x ne. w.node_others x ne;
     }
 
 pub returns-clause-marks : goal.returns-clause-marks
 returns-clause-marks c =
-    let s = c.with_state.result in
-    let d = c.index-place.result.now in
-    let u = is_used c.self.inside.places.items c.args.id d c.index-place.ensures (rw (← c.self.view_is) at c.requires.used) in
-    let unlisted = sym u.mark ∙ (rw (← c.self.view_is) at c.requires.unlisted) in
-    let mark = mark_by s Free 0 c.with_state.ensures.state c.with_state.ensures.death in
-    rw (← c.self.view_is) (λ x. ap (λ ms. get_or ms x plain) (marks_kept c.self.inside.places.items c.args.id s d c.index-place.ensures (mark ∙ sym unlisted)))
+    let s = free_place c.self.inside.first_free in
+    let d = place_at c.self.inside.places c.args.id in
+    let u = is_plain_at c.self.inside.places.items c.args.id (rw (← c.self.view_is) at c.requires.used) (rw (← c.self.view_is) at c.requires.unlisted) in
+    rw (← c.self.view_is, c.free.ensures) (λ x. ap (λ ms. get_or ms x plain) (marks_kept c.self.inside.places.items c.args.id s d u.read (sym u.unlisted)))
 
 pub returns-clause-room : goal.returns-clause-room
 returns-clause-room c =
-    let s = c.with_state.result in
-    let d = c.index-place.result.now in
-    let u = is_used c.self.inside.places.items c.args.id d c.index-place.ensures (rw (← c.self.view_is) at c.requires.used) in
-    let w = writes c.self.inside.places.items c.args.id s d u.within c.index-place.ensures in
-    let more = rw (u.not_free, ap (λ k. is_none (node_in k (content_of s))) c.with_state.ensures.state) at w.free in
-    rw (← c.self.view_is) (omega (arith, more))
+    let s = free_place c.self.inside.first_free in
+    let d = place_at c.self.inside.places c.args.id in
+    let u = is_plain_at c.self.inside.places.items c.args.id (rw (← c.self.view_is) at c.requires.used) (rw (← c.self.view_is) at c.requires.unlisted) in
+    let w = writes c.self.inside.places.items c.args.id s d u.used.within u.read in
+    let more = rw u.used.not_free at w.free in
+    rw (← c.self.view_is, c.free.ensures) (omega (arith, more))
 
 pub returns-clause-in_use : goal.returns-clause-in_use
 returns-clause-in_use c =
-    let s = c.with_state.result in
-    let d = c.index-place.result.now in
-    let u = is_used c.self.inside.places.items c.args.id d c.index-place.ensures (rw (← c.self.view_is) at c.requires.used) in
-    let w = writes c.self.inside.places.items c.args.id s d u.within c.index-place.ensures in
-    let fewer = rw (ap is_some u.node, ap (λ k. is_some (node_in k (content_of s))) c.with_state.ensures.state) at w.used in
-    rw (← c.self.view_is) (omega (arith, fewer))
+    let s = free_place c.self.inside.first_free in
+    let d = place_at c.self.inside.places c.args.id in
+    let u = is_plain_at c.self.inside.places.items c.args.id (rw (← c.self.view_is) at c.requires.used) (rw (← c.self.view_is) at c.requires.unlisted) in
+    let w = writes c.self.inside.places.items c.args.id s d u.used.within u.read in
+    let fewer = rw (ap is_some u.used.node) at w.used in
+    rw (← c.self.view_is, c.free.ensures) (omega (arith, fewer))
 
 pub returns-clause-numbers : goal.returns-clause-numbers
-returns-clause-numbers c = rw (← c.self.view_is) (numbers_kept c.self.inside.places.items c.args.id c.with_state.result)
+returns-clause-numbers c = rw (← c.self.view_is, c.free.ensures) (numbers_kept c.self.inside.places.items c.args.id (free_place c.self.inside.first_free))
 
 pub returns-clause-free : goal.returns-clause-free
 returns-clause-free c =
-    let s = c.with_state.result in
-    let d = c.index-place.result.now in
-    let u = is_used c.self.inside.places.items c.args.id d c.index-place.ensures (rw (← c.self.view_is) at c.requires.used) in
-    let w = writes c.self.inside.places.items c.args.id s d u.within c.index-place.ensures in
-    let more = rw (u.not_free, ap (λ k. is_none (node_in k (content_of s))) c.with_state.ensures.state) at w.free in
-    rw (← c.self.view_is) (omega (arith, more))
+    let s = free_place c.self.inside.first_free in
+    let d = place_at c.self.inside.places c.args.id in
+    let u = is_plain_at c.self.inside.places.items c.args.id (rw (← c.self.view_is) at c.requires.used) (rw (← c.self.view_is) at c.requires.unlisted) in
+    let w = writes c.self.inside.places.items c.args.id s d u.used.within u.read in
+    let more = rw u.used.not_free at w.free in
+    rw (← c.self.view_is, c.free.ensures) (omega (arith, more))

@@ -1,37 +1,27 @@
-use Rattle.std.proofs.Common.{refl, sym, ap, ◌∙◌, arith}
+use Rattle.std.proofs.Common.{None, refl, sym, ap, ◌∙◌, arith}
 use Rattle.std.proofs.lemmas.List.{length-map}
+use Rattle.gs_pool.specs.Places.{place_at, free_place, relinked}
 use Rattle.gs_pool.specs.Lists.{pin_of}
+use Rattle.gs_pool.proofs.MapLemmas.{at_itself}
+use Rattle.gs_pool.proofs.StateLemmas.{retired_listed}
 use Rattle.gs_pool.proofs.FollowLemmas.{has_last, nodes_same, marks_same, pin_shown}
 use Rattle.gs_pool.proofs.HandOverLemmas.{some_first, few_handed, handed_sound, pins_handed, counts_handed}
 use Rattle.gs_pool.proofs.pools.Pool.hand_over.Goals as goal
 
-pub overflow_cast-hold : goal.overflow_cast-hold
-overflow_cast-hold c =
+pub relink-requires-clause-within : goal.relink-requires-clause-within
+relink-requires-clause-within c =
     let lt = rw (← c.self.view_is, length-map c.self.inside.holds.items pin_of) at c.requires.list in
     let some = some_first c.index.result.now.first (rw c.if-is_none.false at c.is_none.ensures) in
     let last = has_last _ _ _ _ _ _ _ _ _ c.args.list c.index.result.now c.self.invariant lt c.index.ensures some.0 some.1 in
-    omega (arith, last.within, c.self.invariant.short, c.self.invariant.small)
+    omega (arith, last.within)
 
-pub index-place-requires : goal.index-place-requires
-index-place-requires c =
+pub relink-requires-clause-listed : goal.relink-requires-clause-listed
+relink-requires-clause-listed c =
     let lt = rw (← c.self.view_is, length-map c.self.inside.holds.items pin_of) at c.requires.list in
     let some = some_first c.index.result.now.first (rw c.if-is_none.false at c.is_none.ensures) in
     let last = has_last _ _ _ _ _ _ _ _ _ c.args.list c.index.result.now c.self.invariant lt c.index.ensures some.0 some.1 in
-    omega (arith, last.within, c.self.inside.places.ok.0)
-
-pub overflow_cast-hold-2 : goal.overflow_cast-hold-2
-overflow_cast-hold-2 c =
-    let lt = rw (← c.self.view_is, length-map c.self.inside.holds.items pin_of) at c.requires.list in
-    let some = some_first c.index.result.now.first (rw c.if-is_none.false at c.is_none.ensures) in
-    let last = has_last _ _ _ _ _ _ _ _ _ c.args.list c.index.result.now c.self.invariant lt c.index.ensures some.0 some.1 in
-    omega (arith, last.within, c.self.invariant.short, c.self.invariant.small)
-
-pub index_mut-requires : goal.index_mut-requires
-index_mut-requires c =
-    let lt = rw (← c.self.view_is, length-map c.self.inside.holds.items pin_of) at c.requires.list in
-    let some = some_first c.index.result.now.first (rw c.if-is_none.false at c.is_none.ensures) in
-    let last = has_last _ _ _ _ _ _ _ _ _ c.args.list c.index.result.now c.self.invariant lt c.index.ensures some.0 some.1 in
-    omega (arith, last.within, c.self.inside.places.ok.0)
+    let d = place_at c.self.inside.places c.index.result.now.last in
+    retired_listed d.state d.death (last.retired d (at_itself c.self.inside.places.items c.index.result.now.last (free_place None)))
 
 pub joined-requires : goal.joined-requires
 joined-requires c =
@@ -45,17 +35,17 @@ invariant_of-self c =
     let to = rw (← c.self.view_is, length-map c.self.inside.holds.items pin_of) at c.requires.other in
     let some = some_first c.index.result.now.first (rw c.if-is_none.false at c.is_none.ensures) in
     let pins = sym (pin_shown c.args.self.now c.self.inside.holds.items c.args.list c.index.result.now (ap (λ p. p.pins) (sym c.self.view_is)) lt c.index.ensures) ∙ c.requires.same ∙ pin_shown c.args.self.now c.self.inside.holds.items c.args.other c.index-onto.result.now (ap (λ p. p.pins) (sym c.self.view_is)) to c.index-onto.ensures in
-    rw (c.empty.ensures, c.joined.ensures) (handed_sound _ _ _ _ _ _ _ _ _ c.args.list c.args.other c.index.result.now c.index-onto.result.now c.self.invariant lt to c.requires.apart c.index.ensures c.index-onto.ensures some.0 c.with_next.result c.index-place.result.now some.1 pins c.index-place.ensures c.with_next.ensures.content c.with_next.ensures.state c.with_next.ensures.death c.with_next.ensures.next)
+    rw (c.relink.ensures, c.empty.ensures, c.joined.ensures) (handed_sound _ _ _ _ _ _ _ _ _ c.args.list c.args.other c.index.result.now c.index-onto.result.now c.self.invariant lt to c.requires.apart c.index.ensures c.index-onto.ensures some.0 (relinked (place_at c.self.inside.places c.index.result.now.last) c.index-onto.result.now.first) (place_at c.self.inside.places c.index.result.now.last) some.1 pins (at_itself c.self.inside.places.items c.index.result.now.last (free_place None)) refl refl refl refl)
 
 pub returns-clause-nodes : goal.returns-clause-nodes
 returns-clause-nodes c =
     let lt = rw (← c.self.view_is, length-map c.self.inside.holds.items pin_of) at c.requires.list in
-    rw (← c.self.view_is) (nodes_same _ _ _ _ _ _ _ _ _ c.args.list c.index.result.now c.self.invariant lt c.index.ensures c.with_next.result c.index-place.result.now c.index-place.ensures c.with_next.ensures.content c.with_next.ensures.state)
+    rw (← c.self.view_is, c.relink.ensures) (nodes_same _ _ _ _ _ _ _ _ _ c.args.list c.index.result.now c.self.invariant lt c.index.ensures (relinked (place_at c.self.inside.places c.index.result.now.last) c.index-onto.result.now.first) (place_at c.self.inside.places c.index.result.now.last) (at_itself c.self.inside.places.items c.index.result.now.last (free_place None)) refl refl)
 
 pub returns-clause-marks : goal.returns-clause-marks
 returns-clause-marks c =
     let lt = rw (← c.self.view_is, length-map c.self.inside.holds.items pin_of) at c.requires.list in
-    rw (← c.self.view_is) (marks_same _ _ _ _ _ _ _ _ _ c.args.list c.index.result.now c.self.invariant lt c.index.ensures c.with_next.result c.index-place.result.now c.index-place.ensures c.with_next.ensures.state c.with_next.ensures.death)
+    rw (← c.self.view_is, c.relink.ensures) (marks_same _ _ _ _ _ _ _ _ _ c.args.list c.index.result.now c.self.invariant lt c.index.ensures (relinked (place_at c.self.inside.places c.index.result.now.last) c.index-onto.result.now.first) (place_at c.self.inside.places c.index.result.now.last) (at_itself c.self.inside.places.items c.index.result.now.last (free_place None)) refl refl)
 
 pub returns-clause-pins : goal.returns-clause-pins
 returns-clause-pins c =
