@@ -1,5 +1,6 @@
 //! Texts in blocks.
 ghost use Rattle.std.specs.Prelude.{◌≡◌, ◌+◌, ◌-◌, ◌<◌, ◌^◌, ◌++◌, [], length, is_ok, if◌then◌else◌, IsTrue, IfOk, OnErr};
+ghost use Rattle.std.specs.Bool.{Decides};
 ghost use Rattle.gs_dict.specs.Places.{IsPlaceOf, LiesInBlock, KeepsBytes, HoldsText, block_at, text_in};
 
 use crate::blocks::Block;
@@ -10,11 +11,15 @@ use std::marker::Model;
 /// The most bytes of a block: 256 KiB with the 16 that the C library has for itself before it.
 const ROOM: usize = (1 << 18) - 16;
 
-/// The bytes of the first block. Each of the next eight has twice as many, up to `ROOM`.
+/// The bytes of the first block. Each of the next eight has twice as many as the one before it, the last of
+/// them `ROOM`.
 const FIRST_ROOM: usize = 1 << 10;
 
 /// How many blocks there may be: as many as a place can number.
 const MOST_BLOCKS: usize = 1 << 30;
+
+/// For each block that there is, so many bytes are to be left when another one is begun.
+const RESERVE: usize = ROOM / 4;
 
 /// Texts in blocks. A block is made with all its room, and texts are written into the last one, one
 /// after another; where the next text has no room there, the block is full, and another one is begun.
@@ -86,17 +91,35 @@ impl Texts {
         last.len() <= room && more <= room - last.len()
     }
 
-    /// Begins a block with a text.
+    /// Whether there are as many blocks as there may be.
+    fn is_full(&self) -> bool
+        ensures { Decides result (length self.now ≡ 2 ^ 30) }
+    {
+        self.blocks.len() == MOST_BLOCKS
+    }
+
+    /// Whether memory would be there for a quarter of all texts. What new texts do not take is left for those
+    /// who read: else these might be refused for good, since texts stay.
+    fn has_reserve(&self) -> bool {
+        let bytes = self.blocks.len().saturating_mul(RESERVE);
+        let spare: Result<Vec<u8>, AllocError> = Vec::with_capacity(
+            *self.blocks.allocator(),
+            bytes,
+        );
+        spare.is_ok()
+    }
+
+    /// Begins a block with a text. Wants more memory than it takes.
     fn begin(&mut self, text: &[u8]) -> Result<Place, AllocError>
         requires { length text.now < 2 ^ 16 }
         ensures kept { KeepsBytes self.old self.new }
         ensures ok { IfOk result (λ p. HoldsText self.new p text.now) }
         ensures err { OnErr result (self.new ≡ self.old) }
     {
-        let number = self.blocks.len();
-        if number == MOST_BLOCKS {
+        if self.is_full() || !self.has_reserve() {
             return Err(AllocError);
         }
+        let number = self.blocks.len();
         let room = room_of(number).max(text.len());
         let mut block = Block::with_room(*self.blocks.allocator(), room)?;
         let place = write(&mut block, number, text)?;
