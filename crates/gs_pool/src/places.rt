@@ -102,7 +102,7 @@ impl Places {
         self.slots[id as usize].left()
     }
 
-    /// Makes room for so many places more.
+    /// Makes room for so many places more. Where tails are refused, slots give back what they were given.
     pub fn reserve(&mut self, more: usize) -> Result<(), AllocError>
         ensures items { self.new.items ≡ self.old.items }
         ensures ok { OnOk result (length self.new.items + more ≤ self.new.capacity) }
@@ -111,7 +111,10 @@ impl Places {
     {
         self.slots.reserve(more)?;
         let room = self.slots.capacity();
-        self.tails.reserve(room)?;
+        if self.tails.reserve(room).is_err() {
+            self.slots.shrink_to(self.room);
+            return Err(AllocError);
+        }
         self.room = room;
         Ok(())
     }
@@ -133,7 +136,7 @@ impl Places {
         self.slots[id as usize] = Slot::plain(node);
     }
 
-    /// A place that is on no list of nodes gets free.
+    /// A place that is on no list of nodes becomes free.
     pub fn free(&mut self, id: u32, next: Option<u32>)
         requires within { id < length self.old.items }
         requires unlisted { is_listed (place_at self.old id).state ≡ false }
@@ -147,7 +150,8 @@ impl Places {
         requires within { id < length self.old.items }
         requires plain { (place_at self.old id).state ≡ Plain }
         requires listed { is_listed state ≡ true }
-        ensures { self.new ≡ with_place self.old id (listed_place state (content_of (place_at self.old id)) death next) }
+        ensures { self.new
+            ≡ with_place self.old id (listed_place state (content_of (place_at self.old id)) death next) }
     {
         let slot = self.slots[id as usize];
         let tail = Tail {
@@ -159,7 +163,7 @@ impl Places {
         self.slots[id as usize] = slot.with_birth(state, number as u64);
     }
 
-    /// The place at the head of a list gets plain: what the list had of it, and the next one.
+    /// The place at the head of a list becomes plain: what the list had of it, and the next one.
     pub fn unlist(&mut self, id: u32) -> (Retired, Option<u32>)
         requires within { id < length self.old.items }
         requires listed { is_listed (place_at self.old id).state ≡ true }
