@@ -78,22 +78,31 @@ fn wrong_step<R: Wait>(
     None
 }
 
+/// Such a door to a store.
+fn probed<'a, R: Wait>(
+    rt: &'a R,
+    turn: &'a Mutex<()>,
+    door: Store,
+) -> TurnDoor<'a, Probe<'a, Store>, R> {
+    TurnDoor {
+        rt,
+        turn,
+        is_reading: false,
+        door: Probe {
+            turn,
+            door,
+            is_taken: false,
+        },
+    }
+}
+
 /// The same at a new store.
 fn wrong_turn<R: Wait>(rt: &R, alloc: Global) -> Option<&'static str> {
     let Ok(store) = Store::new(alloc, 1, "http://localhost") else {
         return Some("memory");
     };
     let turn = Mutex::new(());
-    let mut door = TurnDoor {
-        rt,
-        turn: &turn,
-        is_reading: false,
-        door: Probe {
-            turn: &turn,
-            door: store,
-            is_taken: false,
-        },
-    };
+    let mut door = probed(rt, &turn, store);
     let wrong = wrong_step(alloc, &turn, &mut door);
     let TurnDoor {
         rt: _,
