@@ -47,9 +47,13 @@ question_cmp p q =
 abbrev pub IsAnswer : List Lot → Question → Bool → Type 0
 IsAnswer ls q found = (b : BoundNumbers) → question_of ls b q.first q.second ≡ q → found ≡ has_choice ls (q.first ∷ q.second ∷ []) b
 
+-- the answer that is kept to a question, if one is
+abbrev pub kept_answer : Answers → Question → Option Bool
+kept_answer a q = get question_cmp a.kept q
+
 -- each answer that is kept is one
 abbrev pub AreRight : List Lot → Answers → Type 0
-AreRight ls a = (q : Question) (found : Bool) → get question_cmp a.kept q ≡ Some found → IsAnswer ls q found
+AreRight ls a = (q : Question) (found : Bool) → kept_answer a q ≡ Some found → IsAnswer ls q found
 
 -- one answer more is kept, and the others are as right as they were
 abbrev pub KeepsAnswer : Answers → Answers → Question → Bool → Type 0

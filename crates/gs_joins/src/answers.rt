@@ -1,7 +1,6 @@
 //! Answers that are kept: whether two lists have keys that go together.
 ghost use Rattle.std.specs.Prelude.{◌≡◌, List, OnOk};
-ghost use Rattle.std.specs.BTreeMap.{get};
-ghost use Rattle.gs_joins.specs.Answers.{question_cmp, AreRight, IsAnswer, KeepsAnswer};
+ghost use Rattle.gs_joins.specs.Answers.{kept_answer, AreRight, IsAnswer, KeepsAnswer};
 ghost use Rattle.gs_joins.specs.declared.lots.Lot.{Lot};
 
 use crate::questions::Question;
@@ -32,7 +31,7 @@ impl Answers {
 
     /// The answer that is kept, if one is. Logarithmic in their number.
     pub fn find(&self, question: &Question) -> Option<bool>
-        ensures { result ≡ get question_cmp self.now.kept question.now }
+        ensures { result ≡ kept_answer self.now question.now }
     {
         self.kept.get(question).copied()
     }

@@ -33,9 +33,11 @@ fn compare_numbers(dict: &Dict, a: u32, b: u32) -> Ordering
 }
 
 impl<'a> ByText<'a> {
+    ghost use Rattle.gs_keys.specs.Texts.{dict_of};
+
     /// The order by the texts of a dictionary.
     pub fn new(dict: &'a Dict) -> ByText<'a>
-        ensures { result.dict.now ≡ dict.now }
+        ensures { dict_of result ≡ dict.now }
     {
         ByText { dict }
     }

@@ -8,6 +8,10 @@ use Rattle.gs_lex.specs.declared.pieces.Advance.TheVariants as next
 use Rattle.gs_lex.specs.declared.pieces.PieceLexer.{PieceLexer}
 use Rattle.gs_lex.specs.declared.plains.Plain.{Plain}
 
+-- the bytes that are held
+abbrev pub held_bytes : PieceLexer → List ℕ
+held_bytes l = l.held.items
+
 -- the bytes that are held and not cut
 abbrev pub left_in : PieceLexer → List ℕ
 left_in l = drop l.at.cut l.held.items

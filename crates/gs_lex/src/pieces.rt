@@ -124,7 +124,7 @@ pub struct PieceLexer {
 
 impl PieceLexer {
     ghost use Rattle.std.specs.Prelude.{◌++◌, Bool, IfSome, OnErr};
-    ghost use Rattle.gs_lex.specs.Pieces.{LeadsPieces, Holds, AdvancesPieces, Shortens, ComesPlain, left_in, token_of};
+    ghost use Rattle.gs_lex.specs.Pieces.{LeadsPieces, Holds, AdvancesPieces, Shortens, ComesPlain, held_bytes, left_in, token_of};
 
     /// A lexer at the start of a text, of the tokens of Turtle, or of SPARQL Update too. It takes
     /// no memory.
@@ -142,7 +142,7 @@ impl PieceLexer {
     /// of the piece is taken.
     pub fn hold(&mut self, piece: &[u8]) -> Result<(), AllocError>
         ensures taken { OnOk result (Holds self.old self.new piece.now) }
-        ensures held { OnOk result (self.new.held.items ≡ left_in self.old ++ piece.now) }
+        ensures held { OnOk result (held_bytes self.new ≡ left_in self.old ++ piece.now) }
         ensures refused { OnErr result (Holds self.old self.new []) }
     {
         drop_front(&mut self.held, self.at.cut);

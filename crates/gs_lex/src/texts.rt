@@ -56,11 +56,11 @@ pub struct TextLexer<'a> {
 }
 
 impl<'a> TextLexer<'a> {
-    ghost use Rattle.gs_lex.specs.Texts.{Continues, HasGivenTokens};
+    ghost use Rattle.gs_lex.specs.Texts.{lexed_text, Continues, HasGivenTokens};
 
     /// A lexer at the start of a text, of the tokens of Turtle, or of SPARQL Update too.
     pub fn new(text: &'a [u8], updates: bool) -> TextLexer<'a>
-        ensures text { result.text ≡ text.entry }
+        ensures text { lexed_text result ≡ text.entry }
         ensures given { HasGivenTokens updates result [] }
     {
         TextLexer {
@@ -74,7 +74,7 @@ impl<'a> TextLexer<'a> {
     /// token might have had: but for a first try, straight on, what was read in vain is not read again.
     #[inline(always)]
     pub fn next_token(&mut self) -> Next<'a>
-        ensures text { self.new.text ≡ self.old.text }
+        ensures text { lexed_text self.new ≡ lexed_text self.old }
         ensures next { Continues self.old self.new result }
     {
         let (at, next) = next_from(self.text, self.at);

@@ -20,9 +20,17 @@ pub record HasRoom (p : PackedTexts) (n k : ℕ) : Type 0 where
 abbrev pub own_bytes : PackedTexts → ℕ
 own_bytes p = vec_len p.bytes
 
+-- the bytes that a text of two parts has from an earlier text
+abbrev pub split_front : SplitText → List ℕ
+split_front s = s.front.now
+
+-- the bytes after them
+abbrev pub split_rest : SplitText → List ℕ
+split_rest s = s.rest.now
+
 -- the text of two parts
 abbrev pub split_bytes : SplitText → List ℕ
-split_bytes s = s.front.now ++ s.rest.now
+split_bytes s = split_front s ++ split_rest s
 
 -- the texts that a reader has before it
 abbrev pub left_of : Texts → List (List ℕ)

@@ -13,17 +13,18 @@ pub struct SplitText<'a> {
 
 impl<'a> SplitText<'a> {
     ghost use Rattle.std.specs.Prelude.{◌≡◌, ◌++◌};
+    ghost use Rattle.gs_packed_texts.specs.Texts.{split_front, split_rest};
 
     /// The bytes that it has from an earlier text.
     pub fn front(&self) -> &'a [u8]
-        ensures { result.now ≡ self.now.front.now }
+        ensures { result.now ≡ split_front self.now }
     {
         self.front
     }
 
     /// The bytes after them.
     pub fn rest(&self) -> &'a [u8]
-        ensures { result.now ≡ self.now.rest.now }
+        ensures { result.now ≡ split_rest self.now }
     {
         self.rest
     }

@@ -7,6 +7,10 @@ use Rattle.gs_packed_texts.specs.Texts.{texts_of}
 use Rattle.gs_small_triples.specs.Kept.{IsBelow, moved}
 use Rattle.gs_small_triples.specs.declared.packings.Packing.{Packing}
 
+-- for each number of a term the place of its text
+abbrev pub term_places : Packing → List ℕ
+term_places p = p.places.items
+
 -- the text of a number's term is at the place of the number
 abbrev pub IsPlaced : List Term → Packing → ℕ → Type 0
 IsPlaced terms p k = slice_get (texts_of p.texts) (slice_index_or p.places.items k 0) ≡ Some (text_of (term_of_number terms k))

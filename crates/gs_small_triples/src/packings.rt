@@ -65,7 +65,7 @@ fn bytes_of(terms: &[TermText]) -> usize {
 impl Packing {
     ghost use Rattle.std.specs.Prelude.{◌≡◌, ◌<◌, ℕ, false, length, map, slice_index_or, IfOk, OnOk};
     ghost use Rattle.std.specs.List.{All};
-    ghost use Rattle.gs_small_triples.specs.Packed.{IsPlaced, StayPlaced, ArePlaced, HavePlaces};
+    ghost use Rattle.gs_small_triples.specs.Packed.{term_places, IsPlaced, StayPlaced, ArePlaced, HavePlaces};
 
     /// No texts, with room for those of these terms, and a place yet to be noted for each.
     fn new(alloc: Global, terms: &[TermText]) -> Result<Packing, AllocError>
@@ -161,7 +161,7 @@ impl Packing {
     /// Numbers of triples, moved to the places of their terms.
     pub fn numbers(&self, alloc: Global, numbers: &[TripleNumbers]) -> Result<Numbers, AllocError>
         requires { All (HavePlaces self.now) numbers.now }
-        ensures { IfOk result (λ n. numbers_in n ≡ map (moved self.now.places.items) numbers.now) }
+        ensures { IfOk result (λ n. numbers_in n ≡ map (moved (term_places self.now)) numbers.now) }
     {
         let mut kept = Numbers::new(alloc, self.count, numbers.len())?;
         for three in numbers {

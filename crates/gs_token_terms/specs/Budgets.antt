@@ -10,6 +10,14 @@ most_after n = min (16_777_216 + min (n * 64) (2 ^ 64 - 1)) (2 ^ 64 - 1)
 abbrev pub most_made : Budget → ℕ
 most_made b = min (b.most + 34_359_738_368) (2 ^ 64 - 1)
 
+-- the budget of a text of which nothing was read
+abbrev pub fresh_budget : Budget
+fresh_budget = record { used = 0; made = 0; most = most_after 0 }
+
+-- the same budget, where the text was read up to there
+abbrev pub budget_read_to : Budget → ℕ → Budget
+budget_read_to b end = record b { most = most_after end }
+
 -- whether so many bytes more may be made
 abbrev pub may_make : Budget → ℕ → Bool
 may_make b n = nat_le (b.made + n) (most_made b)

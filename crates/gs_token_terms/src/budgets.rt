@@ -1,6 +1,6 @@
 //! How much the texts of a request may take.
 ghost use Rattle.std.specs.Prelude.{◌≡◌, ◌+◌, ◌≤◌, ◌<◌, IfSome, IfNone};
-ghost use Rattle.gs_token_terms.specs.Budgets.{most_after, most_made, CountsBytes, MakesBytes, traded};
+ghost use Rattle.gs_token_terms.specs.Budgets.{fresh_budget, budget_read_to, most_made, CountsBytes, MakesBytes, traded};
 
 use std::alloc::AllocError;
 
@@ -36,7 +36,7 @@ fn sum_within(a: u64, b: u64, most: u64) -> Option<u64>
 impl Budget {
     /// Nothing was read.
     pub fn new() -> Budget
-        ensures { result ≡ record { used = 0; made = 0; most = most_after 0 } }
+        ensures { result ≡ fresh_budget }
     {
         Budget {
             used: 0,
@@ -48,7 +48,7 @@ impl Budget {
     /// The text was read up to there, a number of bytes.
     #[inline]
     pub fn read_up_to(&mut self, end: u64)
-        ensures { self.new ≡ record self.old { most = most_after end } }
+        ensures { self.new ≡ budget_read_to self.old end }
     {
         self.most = FIRST_BYTES.saturating_add(end.saturating_mul(BYTES_FOR_ONE));
     }

@@ -113,7 +113,7 @@ impl Context {
     /// The text of a reference is to be resolved: what reading the base takes counts among what is made.
     #[inline]
     pub fn count_base(&self, budget: &mut Budget, text: &str) -> Result<(), AllocError>
-        ensures { CountsBase result (string_bytes self.now.base) text.now budget.old budget.new }
+        ensures { CountsBase result (context_of self.now).base text.now budget.old budget.new }
     {
         if self.base.len() <= SHORT_BASE_BYTES || has_scheme(text) {
             return Ok(());
@@ -222,7 +222,7 @@ impl Context {
     ) -> Result<bool, AllocError>
         ensures context { ChangesContext result (context_of self.old) (context_of self.new)
             (with_prefix (context_of self.old) prefix.now text.now) }
-        ensures counted { CountsDeclared result (string_bytes self.old.base) text.now budget.old budget.new }
+        ensures counted { CountsDeclared result (context_of self.old).base text.now budget.old budget.new }
     {
         let Some((prefix, _)) = parts(prefix) else {
             return Ok(false);
@@ -244,7 +244,7 @@ impl Context {
     pub fn set_base(&mut self, budget: &mut Budget, text: &str) -> Result<bool, AllocError>
         ensures context { ChangesContext result (context_of self.old) (context_of self.new)
             (with_base (context_of self.old) text.now) }
-        ensures counted { CountsDeclared result (string_bytes self.old.base) text.now budget.old budget.new }
+        ensures counted { CountsDeclared result (context_of self.old).base text.now budget.old budget.new }
     {
         self.count_base(budget, text)?;
         let Some(mut base) = self.resolve(text)? else {

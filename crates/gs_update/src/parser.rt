@@ -41,7 +41,7 @@ impl UpdateParser {
     ghost use Rattle.gs_update_text.specs.Machine as machine;
     ghost use Rattle.gs_update_places.specs.declared.rejections.Rejection.{Rejection as Code};
     ghost use Rattle.gs_update_places.specs.Views.{rejection_at, state_at};
-    ghost use Rattle.gs_update.specs.Views.{update_state_of, update_operation_of};
+    ghost use Rattle.gs_update.specs.Views.{update_state_of, update_operation_of, operations_so_far, IsSoundParser};
     ghost use Rattle.gs_triple_parser.specs.Views.{scope_context, scope_numbers};
     ghost use Rattle.gs_update_places.specs.Steps.{transition_at_place};
     ghost use Rattle.gs_update_places.specs.Places.{IsPassage, Follows, concluded, closed_at};
@@ -160,7 +160,7 @@ impl UpdateParser {
     /// One symbol more. After a refusal the parser is of no more use.
     #[inline(always)]
     pub fn step(&mut self, symbol: Symbol) -> Result<(), AllocError>
-        requires { IsSoundPlace self.old.place }
+        requires { IsSoundParser self.old }
         ensures { OnOk result (Moves self.old self.new
             (machine.step (update_state_of self.old) (symbol_at symbol.entry))) }
     {
@@ -187,7 +187,7 @@ impl UpdateParser {
 
     /// The operations.
     pub fn into_operations(self) -> Vec<Op>
-        ensures { result ≡ self.operations }
+        ensures { result ≡ operations_so_far self }
     {
         let UpdateParser {
             place,

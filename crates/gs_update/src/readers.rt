@@ -4,7 +4,7 @@ ghost use Rattle.gs_model.specs.Iris.{is_absolute};
 ghost use Rattle.gs_update_text.specs.Texts.{request_by};
 ghost use Rattle.gs_update.specs.Answers.{Answers};
 ghost use Rattle.gs_update.specs.Readers.{ReadsText, IsUpdateRefused};
-ghost use Rattle.gs_update_places.specs.Views.{IsSoundPlace};
+ghost use Rattle.gs_update.specs.Views.{IsSoundParser};
 
 use crate::parser::UpdateParser;
 use crate::tokens::{break_off, conclude, take_token};
@@ -15,7 +15,7 @@ use std::alloc::Global;
 
 /// A whole text, from its start to its end, and its fault.
 fn take_text(parser: &mut UpdateParser, text: &[u8]) -> Result<(), Refusal>
-    requires { IsSoundPlace parser.old.place }
+    requires { IsSoundParser parser.old }
     ensures ok { OnOk result (ReadsText parser.old parser.new text.now) }
     ensures fault { IfErr result (IsUpdateRefused parser.old text.now) }
 {

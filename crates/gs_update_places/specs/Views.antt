@@ -45,6 +45,19 @@ abbrev pub HasGiven : Option ℕ → Numbers → Type 0
 HasGiven None n = Unit {0}
 HasGiven (Some k) n = k ≤ n.1
 
+module _ {L S V X T K : Type 0} where
+  -- the numbers of the blank nodes so far
+  abbrev pub block_numbers : CodeBlock L S V X T K → Numbers
+  block_numbers b = numbers_now b.parser
+
+  -- the triples before those that are being read
+  abbrev pub gathered_triples : CodeBlock L S V X T K → K
+  gathered_triples b = b.triples
+
+  -- the numbers that bound the labels of a block are given
+  abbrev pub IsSoundBlock : CodeBlock L S V X T K → Type 0
+  IsSoundBlock b = HasGiven b.since (numbers_now b.parser)
+
 -- in a language of the code
 module _ {L S V X T K : Type 0} (l : TypedLanguage S V X T K) where
   -- the state of a block
@@ -81,9 +94,9 @@ state_at (place.Seeking b) = machine.InWhere (rules_of patterns some_patterns b)
 state_at (place.After s) = machine.After (scope_context s) (scope_numbers s)
 state_at (place.Rejected r) = machine.Rejected (rejection_at r)
 
--- the numbers that bound the labels of a block are given
+-- where a place is in a block, that is sound
 abbrev pub IsSoundPlace : Place → Type 0
-IsSoundPlace (place.Inserting b) = HasGiven b.since (numbers_now b.parser)
-IsSoundPlace (place.Deleting b) = HasGiven b.since (numbers_now b.parser)
-IsSoundPlace (place.Seeking b) = HasGiven b.since (numbers_now b.parser)
+IsSoundPlace (place.Inserting b) = IsSoundBlock b
+IsSoundPlace (place.Deleting b) = IsSoundBlock b
+IsSoundPlace (place.Seeking b) = IsSoundBlock b
 IsSoundPlace other = Unit {0}

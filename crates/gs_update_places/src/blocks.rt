@@ -32,11 +32,9 @@ pub struct Block<L: Language> {
 }
 
 impl<L: Language> Block<L> {
-    ghost use Rattle.gs_triples.specs.Languages.{of_terms};
-    ghost use Rattle.gs_triples.specs.Meanings.{in_language};
     ghost use Rattle.gs_triple_values.specs.Views.{symbol_at};
     ghost use Rattle.gs_triple_parser.specs.Views.{scope_context, scope_numbers, triples_state, context_now, numbers_now};
-    ghost use Rattle.gs_update_places.specs.Views.{rejection_at, HasGiven, bars_since, more_than};
+    ghost use Rattle.gs_update_places.specs.Views.{rejection_at, bars_since, more_than, block_numbers, gathered_triples, scope_of, IsSoundBlock};
     ghost use Rattle.gs_update_places.specs.Steps.{triples_now, entered_turn, parted_turn, followed_turn, opening_turn, moved_turn, block_turn, end_turn};
     ghost use Rattle.gs_update_places.specs.Steps.{Making, Turned, TurnsTo, GoesOn, StaysIf, KeepsBounds, all_triples};
 
@@ -131,7 +129,7 @@ impl<L: Language> Block<L> {
 
     /// A symbol where triples may begin.
     fn at_triples(&mut self, symbol: Symbol) -> Result<BlockTurn, AllocError>
-        requires { HasGiven self.old.since (numbers_now self.old.parser) }
+        requires { IsSoundBlock self.old }
         ensures turn { TurnsTo L.language result self.new (opening_turn L.language self.old symbol.entry) }
         ensures stays { StaysIf L.language result self.old self.new }
     {
@@ -147,7 +145,7 @@ impl<L: Language> Block<L> {
     /// A symbol, where any may stand.
     #[inline(always)]
     fn moved(&mut self, symbol: Symbol) -> Result<BlockTurn, AllocError>
-        requires { HasGiven self.old.since (numbers_now self.old.parser) }
+        requires { IsSoundBlock self.old }
         ensures turn { TurnsTo L.language result self.new (moved_turn L.language self.old symbol.entry) }
         ensures stays { StaysIf L.language result self.old self.new }
     {
@@ -180,7 +178,7 @@ impl<L: Language> Block<L> {
     /// One symbol more. After a refusal the block is of no more use.
     #[inline(always)]
     pub fn step(&mut self, symbol: Symbol) -> Result<BlockTurn, AllocError>
-        requires { HasGiven self.old.since (numbers_now self.old.parser) }
+        requires { IsSoundBlock self.old }
         ensures turn { TurnsTo L.language result self.new (block_turn L.language self.old symbol.entry) }
         ensures stays { StaysIf L.language result self.old self.new }
     {
@@ -220,9 +218,9 @@ impl<L: Language> Block<L> {
 
     /// What stays for the next operation, and the triples of this one.
     pub fn into_parts(self) -> (Scope, L::List)
-        ensures context { scope_context result.0 ≡ in_language of_terms (context_now L.language self.parser) }
-        ensures numbers { scope_numbers result.0 ≡ numbers_now self.parser }
-        ensures triples { result.1 ≡ self.triples }
+        ensures context { scope_context result.0 ≡ scope_of L.language self }
+        ensures numbers { scope_numbers result.0 ≡ block_numbers self }
+        ensures triples { result.1 ≡ gathered_triples self }
     {
         let Block {
             parser,
