@@ -90,12 +90,13 @@ fn wrong_read(store: &mut Wide) -> Option<&'static str> {
     if !matches!(pinned, Answer::Pinned(200, 1)) {
         return Some("the read");
     }
-    let given = read(store);
-    let is_given = match &given {
-        Answer::Lines(lines, true) => lines.as_slice() == LINES,
-        _ => false,
+    let is_given = match read(store) {
+        Answer::Lines(lines, true) => lines.into_bytes().as_slice() == LINES,
+        other => {
+            drop(other);
+            false
+        }
     };
-    drop(given);
     if is_given { None } else { Some("the lines") }
 }
 

@@ -134,13 +134,13 @@ fn is_page(store: &Small, number: u64, calls: &[Call], count: usize) -> bool {
 
 /// Whether the second seat's read gives its lines, all at once.
 fn is_read(store: &mut Small) -> bool {
-    let answer = store.event(Event::Seat(1, Action::Piece(9)));
-    let is_right = match &answer {
-        Answer::Lines(lines, true) => lines.as_slice() == LINES,
-        _ => false,
-    };
-    drop(answer);
-    is_right
+    match store.event(Event::Seat(1, Action::Piece(9))) {
+        Answer::Lines(lines, true) => lines.into_bytes().as_slice() == LINES,
+        other => {
+            drop(other);
+            false
+        }
+    }
 }
 
 /// What is not as it must be.

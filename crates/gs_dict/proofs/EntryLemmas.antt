@@ -3,11 +3,11 @@ use Rattle.std.proofs.Common.{◌≡◌, ◌≢◌, ℕ, ◌+◌, ◌<◌, List,
 use Rattle.std.proofs.lemmas.Bool.{cases_eq}
 use Rattle.std.proofs.lemmas.List.{get_or_append_left, get_or_push, length_push}
 use Rattle.gs_dict.specs.declared.chains.Entry.{Entry}
-use Rattle.gs_dict.specs.declared.places.Place.{Place}
-use Rattle.gs_dict.specs.Places.{LiesInBlock, HoldsText, KeepsBytes, text_in}
+use Rattle.gs_texts.specs.declared.places.Place.{Place}
+use Rattle.gs_texts.specs.Places.{LiesInBlock, HoldsText, KeepsBytes, text_in}
 use Rattle.gs_dict.specs.Chains.{IsLinked, AreInBlocks, IsTable, AreEnough, Agree, dict_entry_at, bucket_at, bucket_of, text_at, no_entry}
 use Rattle.gs_dict.proofs.ChainLemmas.{linked_more}
-use Rattle.gs_dict.proofs.PlaceLemmas.{lies_kept, text_kept}
+use Rattle.gs_texts.proofs.PlaceLemmas.{lies_kept, text_kept}
 
 -- the next entry is put into its chain
 pub relinked :

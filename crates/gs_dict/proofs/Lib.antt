@@ -1,5 +1,5 @@
 pub mod ChainLemmas
-pub mod PlaceLemmas
 pub mod EntryLemmas
 pub mod TableLemmas
 pub mod TermLemmas
+pub mod BuilderLemmas

@@ -2,7 +2,7 @@
 use Rattle.std.proofs.Common.{◌≡◌, ℕ, ◌+◌, ◌<◌, List, [], ◌∷◌, ◌++◌, length, ap, sym, ◌∙◌, subst, refl, arith, get_or, set}
 use Rattle.std.proofs.lemmas.List.{get_or_append_left, get_or_push, length_push}
 use Rattle.gs_dict.specs.declared.chains.Entry.{Entry}
-use Rattle.gs_dict.specs.Places.{HoldsText, KeepsBytes}
+use Rattle.gs_texts.specs.Places.{HoldsText, KeepsBytes}
 use Rattle.gs_dict.specs.Chains.{IsLinked, IsTable, AreEnough, EntryHas, Agree, KeepsTexts, bucket_of, no_entry}
 use Rattle.gs_dict.proofs.EntryLemmas.{text_agree, placed_agree, text_later, placed_later, text_push, text_last, table_push}
 

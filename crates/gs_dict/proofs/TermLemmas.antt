@@ -193,9 +193,9 @@ dict_more blocks later es fs heads links s last x d table kept count has canonic
 
 -- one without terms
 pub dict_empty :
-    (heads : List ℕ) (s : FoldHasher) (last : ℕ) → ((b : ℕ) → get_or heads b 0 ≡ 0) → AreEnough (length heads) 0 → last ≤ last_term
-    → IsDict [] [] heads s last
-dict_empty heads s last empty enough bounded = record {
+    (blocks : List (List ℕ)) (heads : List ℕ) (s : FoldHasher) (last : ℕ) → ((b : ℕ) → get_or heads b 0 ≡ 0) → AreEnough (length heads) 0
+    → last ≤ last_term → IsDict blocks [] heads s last
+dict_empty blocks heads s last empty enough bounded = record {
   table = record {
     linked = record {
       head_given = λ b. omega (arith, empty b);
@@ -215,9 +215,9 @@ dict_empty heads s last empty enough bounded = record {
   bounded = bounded;
 }
 
-pub terms_none : terms_of [] [] ≡ []
+pub terms_none : (blocks : List (List ℕ)) → terms_of blocks [] ≡ []
 unfolding terms_of
-terms_none = refl
+terms_none blocks = refl
 
 -- what a look-up says, in the words of the dictionary
 pub meets_as :

@@ -2,8 +2,8 @@
 use Rattle.std.specs.Prelude.{◌≡◌, ℕ, ◌+◌, ◌-◌, ◌<◌, ◌≤◌, ◌^◌, List, length, slice_index, slice_index_or, bit_and, Option, Some, None, Result, Ok, Err}
 use Rattle.std.specs.declared.alloc.AllocError.{AllocError}
 use Rattle.gs_dict.specs.declared.chains.Entry.{Entry}
-use Rattle.gs_dict.specs.declared.places.Place.{Place}
-use Rattle.gs_dict.specs.Places.{LiesInBlock, text_in}
+use Rattle.gs_texts.specs.declared.places.Place.{Place}
+use Rattle.gs_texts.specs.Places.{LiesInBlock, text_in}
 
 -- a place for a number that has none
 abbrev pub no_place : Place

@@ -1,5 +1,5 @@
 -- Read `Numbering` for what a dictionary does; the others are how it is kept.
 pub mod Numbering
-pub mod Places
+pub mod TermLines
 pub mod Chains
 pub mod Kept

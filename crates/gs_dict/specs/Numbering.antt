@@ -2,7 +2,8 @@
 use Rattle.std.specs.Prelude.{◌≡◌, ◌≢◌, ◌⊎◌, ℕ, ◌≤◌, List, [], ◌∷◌, ◌++◌, length, slice_get, Option, Some, None, Result, Ok, Err, refl}
 use Rattle.std.specs.Coded.{Coded, code_by, coded×, coded_ℕ, coded_list}
 use Rattle.gs_model.specs.Codes.{term_code}
-use Rattle.gs_model.specs.Terms.{Term}
+use Rattle.std.specs.Option.{unwrap_or}
+use Rattle.gs_model.specs.Terms.{Term, Iri}
 use Rattle.gs_model.specs.declared.refusals.Refusal.{Refusal}
 use Rattle.gs_model.specs.declared.refusals.Refusal.TheVariants.{NoMemory}
 use Rattle.gs_dict.specs.declared.numbers.TermId.{TermId}
@@ -31,6 +32,10 @@ IsNumberOf ts n t = slice_get ts n ≡ Some t
 -- the term has no number
 abbrev pub IsNew : List Term → Term → Type 0
 IsNew ts t = (n : ℕ) → slice_get ts n ≢ Some t
+
+-- the term of a number, and any where the number was not given
+abbrev pub term_at : List Term → ℕ → Term
+term_at terms n = unwrap_or (slice_get terms n) (Iri [])
 
 -- no term has two numbers
 abbrev pub IsDistinct : List Term → Type 0

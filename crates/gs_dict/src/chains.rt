@@ -4,8 +4,7 @@ ghost use Rattle.std.specs.Bool.{Decides};
 ghost use Rattle.gs_dict.specs.Chains.{IsLinked, AreInBlocks, IsTable, AreEnough, EntryHas, Meets, Agree, KeepsTexts, AddsText, text_at as text_of_number, bucket_of};
 
 use crate::numbers::NO_TERM;
-use crate::places::Place;
-use crate::texts::Texts;
+use gs_texts::{Place, Texts};
 use std::alloc::{AllocError, Global};
 
 /// Where a text stands, the next link of its chain, and its hash. A link is a number plus one, and 0 at

@@ -1,18 +1,20 @@
 //! The dictionary.
-ghost use Rattle.std.specs.Prelude.{◌≡◌, ◌+◌, ◌<◌, ◌≤◌, length, min, nat_lt, slice_get, Some, MatchResult, ℕ};
+ghost use Rattle.std.specs.Prelude.{◌≡◌, ◌+◌, ◌<◌, ◌≤◌, length, min, nat_lt, slice_get, Some, MatchResult, ℕ, IfOk};
 ghost use Rattle.std.specs.Bool.{Decides};
 ghost use Rattle.std.specs.Option.{option_map};
 ghost use Rattle.gs_model.specs.Terms.{Term, text_of, IsTerm};
 ghost use Rattle.gs_model.specs.Limits.{last_term};
 ghost use Rattle.gs_dict.specs.Numbering.{IsNumberOf, IsDistinct, LooksUp, Interns, none_numbered};
 ghost use Rattle.gs_dict.specs.Kept.{hash_of as hash_of_text};
+ghost use Rattle.gs_dict.specs.TermLines.{lines_of_terms};
 
+use crate::builders::TermLinesBuilder;
 use crate::chains::{self, Entry, GUESSED_TOGETHER};
 use crate::numbers::TermId;
-use crate::texts::Texts;
 use gs_model::{LAST_TERM, Refusal};
 use gs_term::TermText;
-use std::alloc::Global;
+use gs_texts::Texts;
+use std::alloc::{AllocError, Global};
 use std::hash::{FoldHasher, Hasher};
 use std::marker::Model;
 
@@ -65,9 +67,10 @@ impl Dict {
     {
         let mut seeded = FoldHasher::default();
         seeded.write_u64(seed);
+        let texts = Texts::new(alloc)?;
         let heads = chains::empty_buckets(alloc, FIRST_BUCKETS)?;
         Ok(Dict {
-            texts: Texts::new(alloc),
+            texts,
             entries: Vec::new(alloc),
             heads,
             seeded,
@@ -106,6 +109,13 @@ impl Dict {
         ensures valid { (t : Term) → IsNumberOf self.now.terms id.number t → IsTerm t }
     {
         chains::text_at(&self.texts, &self.entries, id.number as usize)
+    }
+
+    /// No lines of its terms, with room for so many.
+    pub fn lines(&self, alloc: Global, count: usize) -> Result<TermLinesBuilder<'_>, AllocError>
+        ensures { IfOk result (λ b. b ≡ lines_of_terms self.now.terms) }
+    {
+        TermLinesBuilder::new(alloc, &self.texts, self.entries.as_slice(), count)
     }
 
     /// Whether this number is the term's: one comparison of texts, and no hash.

@@ -6,7 +6,7 @@ use crate::scripts::{Script, seats};
 use crate::totals::Totals;
 use gs_drawn_events::{Ask, event};
 use gs_event::{Answer, Event, Limits};
-use gs_version_models::Lie;
+use gs_version_models::{Lie, put_together};
 use std::alloc::Global;
 
 /// The events of a schedule, the Reclaims after them and what ends it aside.
@@ -45,7 +45,7 @@ pub trait Subject {
 /// A store takes an event.
 pub fn effect<S: Subject>(store: &mut S, event: &Event) -> Effect {
     let before = store.counts();
-    let answer = store.step(event);
+    let answer = put_together(store.step(event));
     Effect {
         answer,
         before,

@@ -71,12 +71,12 @@ fn ask<W: Write>(
     ensures cut { uploads.new.cut ≡ uploads.old.cut }
 {
     let answer = answer(store, uploads, event);
-    print_answer(out, &answer)
+    print_answer(out, answer)
 }
 
 /// Prints a reply.
-fn write_reply<W: Write>(reply: &Reply, out: &mut W) -> Result<(), Stop>
-    ensures { RepliesText (reply_text reply.now) (W.contents out.old) (W.contents out.new) result }
+fn write_reply<W: Write>(reply: Reply, out: &mut W) -> Result<(), Stop>
+    ensures { RepliesText (reply_text reply) (W.contents out.old) (W.contents out.new) result }
 {
     match print_reply(out, reply) {
         Ok(()) => Ok(()),
@@ -109,7 +109,7 @@ fn do_event<W: Write>(
 {
     match committing(&event) {
         Some(seat) => match commit(alloc, store, uploads, seat) {
-            Ok(reply) => write_reply(&reply, out),
+            Ok(reply) => write_reply(reply, out),
             Err(_) => Err(Stop::NoMemory),
         },
         None => match ask(store, uploads, event, out) {
@@ -135,7 +135,7 @@ fn do_feed<W: Write>(
     ensures cut { uploads.new.cut ≡ uploads.old.cut }
 {
     match feed(alloc, store, uploads, seat, language, text) {
-        Ok(reply) => write_reply(&reply, out),
+        Ok(reply) => write_reply(reply, out),
         Err(_) => Err(Stop::NoMemory),
     }
 }
@@ -154,7 +154,7 @@ fn do_patch<W: Write>(
     ensures cut { uploads.new.cut ≡ uploads.old.cut }
 {
     match patch(alloc, store, uploads, seat, text) {
-        Ok(reply) => write_reply(&reply, out),
+        Ok(reply) => write_reply(reply, out),
         Err(_) => Err(Stop::NoMemory),
     }
 }

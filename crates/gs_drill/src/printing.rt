@@ -116,31 +116,31 @@ fn put_status<W: Write>(
 }
 
 /// Writes what an answer prints. It takes no memory.
-pub fn print_answer<W: Write>(out: &mut W, answer: &Answer) -> io::Result<()>
-    ensures { Writes (W.contents out.old) (W.contents out.new) (answer_text answer.now) result }
+pub fn print_answer<W: Write>(out: &mut W, answer: Answer) -> io::Result<()>
+    ensures { Writes (W.contents out.old) (W.contents out.new) (answer_text answer) result }
 {
     let mut buffer = Buffer::new();
     match answer {
-        Answer::Opened(request) => put_pair(out, b"opened ", shown(&mut buffer, *request)),
+        Answer::Opened(request) => put_pair(out, b"opened ", shown(&mut buffer, request)),
         Answer::Staged => put_pair(out, b"staged", b""),
-        Answer::Status(status, name, number) => put_status(out, *status, name, *number),
-        Answer::Pinned(status, _) => put_pair(out, b"", shown(&mut buffer, u64::from(*status))),
+        Answer::Status(status, name, number) => put_status(out, status, &name, number),
+        Answer::Pinned(status, _) => put_pair(out, b"", shown(&mut buffer, u64::from(status))),
         Answer::Lines(lines, is_end) => {
-            let word: &[u8] = if *is_end { b"end" } else { b"more" };
-            put_pair(out, lines.as_slice(), word)
+            let word: &[u8] = if is_end { b"end" } else { b"more" };
+            put_pair(out, lines.into_bytes().as_slice(), word)
         }
         Answer::Cancelled => put_pair(out, b"cancelled", b""),
         Answer::Reclaimed(freed, left) => {
-            let word: &[u8] = if *left { b" more" } else { b" done" };
-            put_line(out, b"reclaimed ", shown(&mut buffer, *freed), b"", word)
+            let word: &[u8] = if left { b" more" } else { b" done" };
+            put_line(out, b"reclaimed ", shown(&mut buffer, freed), b"", word)
         }
         Answer::Refused(refusal) => put_pair(out, b"refused ", refusal.name().as_bytes()),
     }
 }
 
 /// Writes what a line prints.
-pub fn print_reply<W: Write>(out: &mut W, reply: &Reply) -> io::Result<()>
-    ensures { Writes (W.contents out.old) (W.contents out.new) (reply_text reply.now) result }
+pub fn print_reply<W: Write>(out: &mut W, reply: Reply) -> io::Result<()>
+    ensures { Writes (W.contents out.old) (W.contents out.new) (reply_text reply) result }
 {
     match reply {
         Reply::Answered(answer) => print_answer(out, answer),

@@ -1,6 +1,7 @@
 //! What a store answers.
 use gs_model::Refusal;
 use gs_term::GraphName;
+use gs_texts::Lines;
 
 /// What a store answers to an event.
 #[derive(Debug, Drop)]
@@ -15,8 +16,8 @@ pub enum Answer {
     Status(u16, Option<GraphName>, u64),
     /// The HTTP status of a read: 200, and the seat reads, or 404; and the last commit number.
     Pinned(u16, u64),
-    /// The next lines, and whether no line is left after them.
-    Lines(Vec<u8>, bool),
+    /// The next lines, which may be put together later, and whether no line is left after them.
+    Lines(Lines, bool),
     /// The seat's upload, patch or read is given up.
     Cancelled,
     /// How many nodes and records were freed, and whether any are left that no current graph and no

@@ -6,13 +6,12 @@ use Rattle.std.specs.Cmp.{IsTotalOrder}
 use Rattle.std.specs.Cmp.Lexicographic.{slice_cmp}
 use Rattle.std.proofs.lemmas.Cmp.{then_total, on_total, nat_list_cmp_total}
 use Rattle.std.specs.declared.cmp.Ordering.{Ordering}
-use Rattle.gs_model.specs.Terms.{Term, Iri, text_of}
+use Rattle.gs_model.specs.Terms.{Term, text_of}
 use Rattle.gs_model.specs.Triples.{RdfTriple}
+use Rattle.gs_dict.specs.Numbering.{Numbered}
+pub use Rattle.gs_dict.specs.Numbering.{term_at}
 use Rattle.gs_pool.specs.declared.nodes.Key.{Key}
-
--- the term of a number, and any where the number was not given
-abbrev pub term_at : List Term → ℕ → Term
-term_at terms n = unwrap_or (slice_get terms n) (Iri [])
+use Rattle.gs_keys.specs.declared.texts.ByText.{ByText}
 
 -- the triple of a key: the terms of its numbers
 abbrev pub triple_at : List Term → Key → RdfTriple
@@ -41,6 +40,10 @@ number_cmp terms m n = slice_cmp nat_cmp (text_at terms m) (text_at terms n)
 -- keys are ordered by subject, then predicate, then object
 abbrev pub key_cmp : List Term → Key → Key → Ordering
 key_cmp terms a b = ordering_then (number_cmp terms a.subject b.subject) (ordering_then (number_cmp terms a.predicate b.predicate) (number_cmp terms a.object b.object))
+
+-- the dictionary by whose texts an order puts keys
+abbrev pub dict_of : ByText → Numbered
+dict_of order = order.dict.now
 
 -- that is a total order
 pub key_total : (terms : List Term) → IsTotalOrder (key_cmp terms)

@@ -1,33 +1,15 @@
 -- Keys and their lines, one after another, and among more terms.
-use Rattle.std.proofs.Common.{◌≡◌, ℕ, ◌+◌, ◌<◌, Bool, true, false, cond, List, [], ◌∷◌, ◌++◌, map, length, get_or, drop, Option, Some, None, refl, sym, ap, ◌∙◌, subst, append_assoc}
-use Rattle.std.proofs.lemmas.List.{drop_more}
-use Rattle.gs_model.specs.Characters.{line_feed, space, dot}
-use Rattle.gs_model.specs.Terms.{Term, text_of}
-use Rattle.gs_model.specs.Triples.{RdfTriple}
+use Rattle.std.proofs.Common.{◌≡◌, Bool, true, false, cond, List, [], ◌∷◌, ◌++◌, map, Option, Some, None, refl, ap}
+use Rattle.gs_model.specs.Terms.{Term}
 use Rattle.gs_term.specs.declared.names.Target.{Target}
-use Rattle.gs_term.specs.declared.names.Target.TheVariants.{Default, Named}
-use Rattle.gs_term.specs.Names.{in_brackets}
+use Rattle.gs_term.specs.declared.names.Target.TheVariants.{Default}
 use Rattle.gs_pool.specs.declared.nodes.Key.{Key}
 use Rattle.gs_tree.specs.Keys.{AllKeys}
 use Rattle.gs_tree.specs.Reading.{is_less, is_past, keys_from}
 use Rattle.gs_keys.specs.Texts.{triple_at, key_cmp, IsGiven}
 use Rattle.gs_keys.proofs.RootLemmas.{key_cmp_kept, triple_kept}
-use Rattle.gs_lines.specs.Graphs.{line_for, line_in, bytes_in}
-use Rattle.gs_lines.specs.Lines.{line_tail}
+use Rattle.gs_lines.specs.Graphs.{line_for, line_in}
 use Rattle.gs_lines.specs.Pieces.{line_at, IsCursor}
-
--- the bytes of the keys that are left, cut after the first
-pub bytes_left : (terms : List Term) (graph : Target) (ks : List Key) (i : ℕ) (k : Key) → i < length ks → k ≡ get_or ks i k → bytes_in terms graph (drop i ks) ≡ line_in terms graph k ++ bytes_in terms graph (drop (i + 1) ks)
-bytes_left terms graph ks i k within is = ap (bytes_in terms graph) (drop_more ks i k within) ∙ ap (λ x. line_in terms graph x ++ bytes_in terms graph (drop (i + 1) ks)) (sym is)
-
--- a line is three texts, with a space after each, and its end
-pub line_parts : (graph : Target) (t : RdfTriple) → line_for graph t ≡ text_of t.subject ++ space ∷ text_of t.predicate ++ space ∷ text_of t.object ++ space ∷ line_tail graph
-line_parts Default t = refl
-line_parts (Named name) t = append_assoc (text_of t.subject ++ space ∷ text_of t.predicate ++ space ∷ text_of t.object) (space ∷ in_brackets name) (space ∷ dot ∷ line_feed ∷ [])
-
--- what holds of the keys that are left holds of the first, and of those after it
-pub all_left : (P : Key → Type 0) (ks : List Key) (i : ℕ) (k : Key) → i < length ks → k ≡ get_or ks i k → AllKeys P (drop i ks) → P k × AllKeys P (drop (i + 1) ks)
-all_left P ks i k within is h = subst (λ x. P x × AllKeys P (drop (i + 1) ks)) (sym is) (subst (AllKeys P) (drop_more ks i k within) h)
 
 -- the lines of keys are those of their triples
 pub lines_of_triples : (terms : List Term) (graph : Target) (ks : List Key) → map (line_in terms graph) ks ≡ map (line_for graph) (map (triple_at terms) ks)

@@ -78,7 +78,7 @@ module _ (terms : List Term) (p : Nodes) (root : Option ℕ) (graph : IsGraphAt 
   -- the first keys, looked for with one more, make a piece
   pub piece_is : (from : Option Key) (count : ℕ) (found kept : List Key) (piece : Piece) → 0 < count
       → found ≡ take (count + 1) (keys_left terms p root from) → kept ≡ take count found
-      → piece.bytes.items ≡ bytes_of terms kept → piece.last ≡ last_key kept → piece.is_end ≡ nat_le (length found) count
+      → piece.lines.items ≡ bytes_of terms kept → piece.last ≡ last_key kept → piece.is_end ≡ nat_le (length found) count
       → IsPiece terms p root from count piece
   piece_is from count found kept piece some found_is kept_is bytes last end =
       let ks = keys_left terms p root from in

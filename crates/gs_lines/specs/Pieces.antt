@@ -37,7 +37,7 @@ IsCursor terms (Some k) = IsGiven terms k
 -- The piece has the next lines of a root from a place on, `count` of them or as many as are left; it is the end where no
 -- more are left, and else its last key is the place where the rest begins.
 pub record IsPiece (terms : List Term) (p : Nodes) (root : Option ℕ) (from : Option Key) (count : ℕ) (piece : Piece) : Type 0 where
-  pub bytes : piece.bytes.items ≡ concat (take count (lines_from terms p root from))
+  pub bytes : piece.lines.items ≡ concat (take count (lines_from terms p root from))
   pub end : piece.is_end ≡ nat_le (length (lines_from terms p root from)) count
   pub last : piece.last ≡ last_key (take count (keys_left terms p root from))
   pub last_given : IsCursor terms piece.last

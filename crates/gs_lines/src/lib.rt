@@ -6,5 +6,5 @@ mod lines;
 mod pieces;
 
 pub use laws::{all_lines_are_the_graphs, lines_outlast_changes};
-pub use lines::{append_lines, lines_size, room_for};
+pub use lines::add_lines;
 pub use pieces::{Piece, add_keys, next_piece, room_for_keys};

@@ -7,13 +7,14 @@ use crate::lines::lines;
 use gs_dict::Dict;
 use gs_keys::ByText;
 use gs_pool::{Key, Pool};
+use gs_texts::Lines;
 use gs_tree::next_keys;
 use std::alloc::{AllocError, Global};
 
 /// Lines of a read, the key of the last of them, and whether none are left.
 #[derive(Drop)]
 pub struct Piece {
-    pub bytes: Vec<u8>,
+    pub lines: Lines,
     /// Where the next piece begins. `None` where the piece has no line.
     pub last: Option<Key>,
     pub is_end: bool,
@@ -69,8 +70,9 @@ fn find_keys(
 
 /// The next lines of a root: those of its keys above `from`, or of all where it is `None`, and
 /// `count` of them at most. One key more is looked for, which says whether any are left. Memory is
-/// wanted for that many keys, 12 bytes each, but no more than 4,097 where fewer are found; and for
-/// the bytes of the lines and 256 more, if there are any.
+/// wanted for that many keys, 12 bytes each, but no more than 4,097 where fewer are found; for 32 bytes
+/// a line, which say where its texts stand; for the bytes of the lines and 256 more, if there are any;
+/// and for a few small blocks.
 pub fn next_piece(
     alloc: Global,
     dict: &Dict,
@@ -89,9 +91,9 @@ pub fn next_piece(
     keys.truncate(most);
     let kept = keys.as_slice();
     let last = kept.last().copied();
-    let bytes = lines(alloc, dict, kept)?;
+    let lines = lines(alloc, dict, kept)?;
     Ok(Piece {
-        bytes,
+        lines,
         last,
         is_end,
     })

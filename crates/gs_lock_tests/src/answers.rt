@@ -135,14 +135,16 @@ fn commit_of(answer: &Answer) -> Option<u64> {
 }
 
 /// What answers print, and then the commit numbers that they report.
-fn numbered(alloc: Global, answers: &[Answer]) -> Result<String, AllocError> {
-    let mut text = printed(alloc, answers)?;
-    for answer in answers {
+fn numbered(alloc: Global, answers: Vec<Answer>) -> Result<String, AllocError> {
+    let mut numbers = String::new(alloc);
+    for answer in &answers {
         if let Some(number) = commit_of(answer) {
             let line = format!(in alloc; "commit {number}\n")?;
-            text.push_str(line.as_str())?;
+            numbers.push_str(line.as_str())?;
         }
     }
+    let mut text = printed(alloc, answers)?;
+    text.push_str(numbers.as_str())?;
     Ok(text)
 }
 
@@ -159,11 +161,10 @@ fn printed_by<C: CountedLedger, T: CountedLedger, B: Room, R: Wait>(
     let done = answer_each(rt, shared, &mut passes, events, by_doors, &mut answers);
     drop(passes);
     let text = if by_doors {
-        numbered(alloc, answers.as_slice())
+        numbered(alloc, answers)
     } else {
-        printed(alloc, answers.as_slice())
+        printed(alloc, answers)
     };
-    drop(answers);
     done?;
     Ok(text?)
 }
@@ -221,9 +222,7 @@ fn printed_by_store(alloc: Global, events: &[Event]) -> Result<String, Refusal> 
     let answers = store.run(events);
     drop(store);
     let answers = answers?;
-    let text = numbered(alloc, answers.as_slice());
-    drop(answers);
-    Ok(text?)
+    Ok(numbered(alloc, answers)?)
 }
 
 /// Adds a line to a schedule, and before a Pin a Head of its scope.

@@ -79,7 +79,7 @@ pub fn read_all(alloc: Global, ended: &mut Ended) -> Result<Vec<u8>, Refusal> {
 fn read_by(alloc: Global, ended: &mut Ended, pin: &str) -> Result<Vec<u8>, Refusal> {
     drop(ask(alloc, ended, pin)?);
     match ask(alloc, ended, "0 piece 10")? {
-        Answer::Lines(lines, true) => Ok(lines),
+        Answer::Lines(lines, true) => Ok(lines.into_bytes()),
         other => {
             drop(other);
             Ok(Vec::new(alloc))

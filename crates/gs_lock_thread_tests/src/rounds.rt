@@ -24,9 +24,7 @@ pub fn say<C: Ledger, T: Ledger, B: Room, R: Wait>(
     let line = format!(in alloc; "{seat} {line}")?;
     let event = event(alloc, line.as_str())?;
     let answer: Answer = store.event(rt, pass, event);
-    let said = words(alloc, &answer);
-    drop(answer);
-    Ok(said?)
+    Ok(words(alloc, answer)?)
 }
 
 /// How many lines a round has.

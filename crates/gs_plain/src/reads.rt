@@ -12,6 +12,7 @@ use crate::quads;
 use gs_event::{Answer, Scope};
 use gs_model::Refusal;
 use gs_term::Target;
+use gs_texts::Lines;
 use std::alloc::{AllocError, Global};
 
 /// Whether the scope can be read: the dataset always, and a target where it has a graph.
@@ -111,10 +112,10 @@ fn piece_of_one(books: &mut Books, seat: &mut Seat, alloc: Global, count: u32) -
     };
     if left <= count {
         *seat = Seat::Idle;
-        return Answer::Lines(bytes, true);
+        return Answer::Lines(Lines::of(bytes), true);
     }
     *given += count;
-    Answer::Lines(bytes, false)
+    Answer::Lines(Lines::of(bytes), false)
 }
 
 /// The same of a read of all graphs, by their versions at its pin.
@@ -136,10 +137,10 @@ fn piece_of_all(books: &mut Books, seat: &mut Seat, alloc: Global, count: u32) -
     };
     if left <= count {
         *seat = Seat::Idle;
-        return Answer::Lines(bytes, true);
+        return Answer::Lines(Lines::of(bytes), true);
     }
     *seat = Seat::ReadingAll(given + count, pin);
-    Answer::Lines(bytes, false)
+    Answer::Lines(Lines::of(bytes), false)
 }
 
 /// The next lines of a row, and how many lines it has left.

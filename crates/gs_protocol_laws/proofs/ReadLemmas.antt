@@ -1,11 +1,11 @@
 -- A whole GET is given the lines that its graph, or all graphs, had at the pin.
-use Rattle.std.proofs.Common.{◌≡◌, ◌⊎◌, inl, inr, ℕ, ◌+◌, Bool, true, false, cond, nat_eq, List, [], ◌∷◌, ◌++◌, take, drop, length, Vec, refl, sym, ap, ◌∙◌, subst, add-zero, append-nil}
+use Rattle.std.proofs.Common.{◌≡◌, ◌⊎◌, inl, inr, ℕ, ◌+◌, Bool, true, false, cond, nat_eq, List, [], ◌∷◌, ◌++◌, take, drop, length, refl, sym, ap, ◌∙◌, subst, add-zero, append-nil}
 use Rattle.std.specs.List.{concat}
-use Rattle.std.specs.declared.alloc.Global.{Global}
 use Rattle.std.proofs.Math.Seq.{take-add}
 use Rattle.std.proofs.lemmas.Bool.{eqb-true, eq-eqb, leb-true}
 use Rattle.std.proofs.lemmas.List.{take_all, take-append-drop}
 use Rattle.std.proofs.lemmas.List.Folds.{concat-append}
+use Rattle.gs_texts.specs.Lines.{Written}
 use Rattle.gs_event.specs.declared.events.Scope.{Scope}
 use Rattle.gs_model.specs.declared.refusals.Refusal.{Refusal}
 use Rattle.gs_model.specs.declared.refusals.Refusal.TheVariants.{BadSeat}
@@ -147,13 +147,13 @@ since_stands start c before seat number (x ∷ since) legal l =
     (since_stands start c before seat number since legal.0 l.0)
 
 -- the last piece has the rest
-last_piece : (v : Totals) (lines : List (List ℕ)) (k n : ℕ) (b : Vec ℕ Global) → FitsSeat v (Reading (drop k lines)) (Piece n) (Lines b true) → concat (take k lines) ++ b.items ≡ concat lines
+last_piece : (v : Totals) (lines : List (List ℕ)) (k n : ℕ) (b : Written) → FitsSeat v (Reading (drop k lines)) (Piece n) (Lines b true) → concat (take k lines) ++ b.items ≡ concat lines
 last_piece v lines k n b f =
     ap (λ xs. concat (take k lines) ++ xs) (f.1 ∙ ap concat (take_all n (drop k lines) (leb-true (length (drop k lines)) n (sym f.2))))
     ∙ sym (concat-append (take k lines) (drop k lines))
     ∙ ap concat (take-append-drop k lines)
 
-whole_lines : (start : Start) (c : Scope) (before : History) (seat number : ℕ) (since : History) (n : ℕ) (b : Vec ℕ Global)
+whole_lines : (start : Start) (c : Scope) (before : History) (seat number : ℕ) (since : History) (n : ℕ) (b : Written)
     → IsLegal start ((At seat (Piece n), Lines b true) ∷ (since ++ (At seat (Pin c), Pinned 200 number) ∷ before)) → LeaveRead seat since
     → bytes_to seat ((At seat (Piece n), Lines b true) ∷ since) ≡ concat (lines_in (dataset_after start before) c)
 whole_lines start c before seat number since n b legal l = go (fits_phase start h seat (Piece n) (Lines b true) legal.1) where

@@ -1,7 +1,7 @@
 -- What a GET is given by its pieces, in a history of events with their answers (SPARQL 1.1 Graph Store HTTP Protocol, section 5.2).
-use Rattle.std.specs.Prelude.{◌≡◌, ℕ, ◌+◌, nat_eq, Bool, true, false, cond, List, [], ◌∷◌, ◌++◌, take, Vec}
+use Rattle.std.specs.Prelude.{◌≡◌, ℕ, ◌+◌, nat_eq, Bool, true, false, cond, List, [], ◌∷◌, ◌++◌, take}
 use Rattle.std.specs.List.{concat}
-use Rattle.std.specs.declared.alloc.Global.{Global}
+use Rattle.gs_texts.specs.Lines.{Written}
 use Rattle.gs_event.specs.declared.events.Scope.{Scope}
 use Rattle.gs_event.specs.declared.events.Action.{Action}
 use Rattle.gs_event.specs.declared.events.Action.TheVariants.{Pin, Piece, Cancel}
@@ -48,7 +48,7 @@ bytes_to seat (x ∷ before) = bytes_to seat before ++ event_bytes seat x.0 x.1
 pub record IsWholeGet (seat : ℕ) (c : Scope) (before whole : History) (bytes : List ℕ) : Type 0 where
   pub since : History
   pub count : ℕ
-  pub piece : Vec ℕ Global
+  pub piece : Written
   pub number : ℕ
   pub events : whole ≡ (At seat (Piece count), Lines piece true) ∷ (since ++ (At seat (Pin c), Pinned 200 number) ∷ before)
   pub goes_on : LeaveRead seat since

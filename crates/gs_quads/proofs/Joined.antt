@@ -17,11 +17,11 @@ whole count xs = sym (concat-append (take count xs) (drop count xs)) ∙ ap conc
 
 -- the bytes of a read to its end
 pub pieces_joined : (v : ℕ) (terms : List Term) (p : Nodes) (r : Recorded) (from : Option Place) (pieces : List QuadPiece) → IsReadByPieces v terms p r from pieces
-    → flat_map (λ (piece : QuadPiece). piece.bytes.items) pieces ≡ concat (quads_left terms p v r from)
+    → flat_map (λ (piece : QuadPiece). piece.lines.items) pieces ≡ concat (quads_left terms p v r from)
 pieces_joined v terms p r from pieces (ends _ _ _ _ count piece is last) =
     let xs = quads_left terms p v r from in
     let few : length xs ≤ count = leb-true (length xs) count (sym is.end ∙ last) in
-    append-nil piece.bytes.items ∙ is.bytes ∙ ap concat (take_all count xs few)
+    append-nil piece.lines.items ∙ is.bytes ∙ ap concat (take_all count xs few)
 pieces_joined v terms p r from pieces (goes _ later _ q _ new _ count piece rest is more same read) =
     let xs = quads_left terms p v r from in
     let others = pieces_joined v later q new piece.last rest read ∙ ap concat (same ∙ is.rest more) in

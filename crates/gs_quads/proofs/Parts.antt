@@ -122,10 +122,6 @@ module _ (s : Source) where
         ∙ bytes_cut r.number (take r.keys ks) (run_places (drop (i + 1) runs) (drop r.keys ks))
         ∙ (λ j. bytes_in s.dict.now.terms (graph j) (first j) ++ bytes_at s (run_places (drop (i + 1) runs) (others j)))
 
-    -- and how many there are
-    pub sizes_left : length (bytes_at s (run_places (drop i runs) ks)) ≡ length (bytes_in s.dict.now.terms e.target own) + length (bytes_at s (run_places (drop (i + 1) runs) rest))
-    sizes_left = ap length runs_left ∙ length-append (bytes_in s.dict.now.terms e.target own) (bytes_at s (run_places (drop (i + 1) runs) rest))
-
 -- the last of two lists of places
 pub last_both : (o : Option Place) (xs ys : List Place) → last_or o (xs ++ ys) ≡ last_or (last_or o xs) ys
 last_both o [] ys = refl

@@ -154,7 +154,7 @@ module _ (terms : List Term) (p : Nodes) (v : ℕ) (r : Recorded) (graphs : AreG
     -- the first places, looked for with one more, make a piece
     pub piece_is : (from : Option Place) (count : ℕ) (found kept : List Place) (many : ℕ) (piece : QuadPiece) → IsQuadPlace terms v r.records from → 0 < count
         → found ≡ take (count + 1) (places_left terms p v r from) → kept ≡ take count found → many ≡ length found
-        → piece.bytes.items ≡ concat (map (quad_at terms r.records) kept) → piece.last ≡ last_place kept → piece.is_end ≡ nat_le many count
+        → piece.lines.items ≡ concat (map (quad_at terms r.records) kept) → piece.last ≡ last_place kept → piece.is_end ≡ nat_le many count
         → IsQuadPiece terms p v r from count piece
     piece_is from count found kept many piece h some found_is kept_is many_is bytes last end =
         let xs = places_left terms p v r from in

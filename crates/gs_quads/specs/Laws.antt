@@ -71,7 +71,7 @@ abbrev pub PiecesAreAll : Type 0
 PiecesAreAll =
     (v : ℕ) (terms : List Term) (p : Nodes) (r : Recorded) (from : Option Place) (pieces : List QuadPiece)
     → IsReadByPieces v terms p r from pieces
-    → flat_map (λ (piece : QuadPiece). piece.bytes.items) pieces ≡ concat (quads_left terms p v r from)
+    → flat_map (λ (piece : QuadPiece). piece.lines.items) pieces ≡ concat (quads_left terms p v r from)
 
 -- the count of each version that version v has is how many keys its root means
 abbrev pub CountTriples : ℕ → Nodes → List Record → Type 0

@@ -26,7 +26,7 @@ last_place xs = slice_get xs (length xs - 1)
 -- The piece has the next lines of version v from a place on, `count` of them or as many as are left; it is the end where no
 -- more are left, and else its last place is where the rest begins.
 pub record IsQuadPiece (terms : List Term) (p : Nodes) (v : ℕ) (r : Recorded) (from : Option Place) (count : ℕ) (piece : QuadPiece) : Type 0 where
-  pub bytes : piece.bytes.items ≡ concat (take count (quads_left terms p v r from))
+  pub bytes : piece.lines.items ≡ concat (take count (quads_left terms p v r from))
   pub end : piece.is_end ≡ nat_le (length (quads_left terms p v r from)) count
   pub last : piece.last ≡ last_place (take count (places_left terms p v r from))
   pub last_given : IsQuadPlace terms v r.records piece.last

@@ -1,74 +1,56 @@
-//! Places as lines: how many bytes they take, the bytes, and the last place.
-ghost use Rattle.std.specs.Prelude.{◌≡◌, ◌+◌, ◌<◌, ◌≤◌, ◌++◌, ◌^◌, length, vec_len, vec_capacity, IfOk, SomeIff};
+//! Places as lines, and the last place.
+ghost use Rattle.std.specs.Prelude.{◌≡◌, ◌++◌, IfOk, OnOk};
 ghost use Rattle.std.specs.List.{All};
 ghost use Rattle.gs_quads.specs.Places.{as_places};
 ghost use Rattle.gs_quads.specs.Pieces.{last_place as last_of};
 ghost use Rattle.gs_quads.specs.Found.{run_places, bytes_at, last_or, IsRecordRun, KeysAreGiven};
 
 use crate::runs::{Run, Source, cut};
-use gs_lines::{append_lines, lines_size, room_for};
+use gs_dict::TermLinesBuilder;
+use gs_lines::add_lines;
 use gs_pool::Key;
+use gs_texts::Lines;
 use std::alloc::{AllocError, Global};
 
-/// How many bytes the lines of runs of keys have, where 64 bits can say it. `ends` is as `lines_size`
-/// of `gs_lines` has it.
-fn quads_size(source: &Source, runs: &[Run], keys: &[Key], ends: &mut u8) -> Option<usize>
+/// Adds the lines of runs of keys.
+fn add_quads(
+    alloc: Global,
+    source: &Source,
+    runs: &[Run],
+    keys: &[Key],
+    lines: &mut TermLinesBuilder,
+) -> Result<(), AllocError>
     requires kept { All (IsRecordRun source.now) runs.now }
     requires given { KeysAreGiven source.now keys.now }
-    ensures { SomeIff result
-        (length (bytes_at source.now (run_places runs.now keys.now)) < 2 ^ 64)
-        (length (bytes_at source.now (run_places runs.now keys.now))) }
-{
-    let mut size = 0usize;
-    let mut left = keys;
-    for run in runs {
-        let (own, rest) = cut(left, run.keys);
-        let graph = &source.records.record(run.number).target;
-        let lines = lines_size(source.dict, graph, own, ends)?;
-        size = size.checked_add(lines)?;
-        left = rest;
-    }
-    Some(size)
-}
-
-/// Appends the lines of runs of keys, for which there is room.
-fn append_quads(source: &Source, runs: &[Run], keys: &[Key], bytes: &mut Vec<u8>)
-    requires kept { All (IsRecordRun source.now) runs.now }
-    requires given { KeysAreGiven source.now keys.now }
-    requires room { vec_len bytes.old
-        + length (bytes_at source.now (run_places runs.now keys.now))
-        ≤ vec_capacity bytes.old }
-    ensures { bytes.new.items ≡ bytes.old.items
-        ++ bytes_at source.now (run_places runs.now keys.now) }
+    requires terms { lines.old.terms ≡ source.now.dict.now.terms }
+    ensures { OnOk result (lines.new.items
+        ≡ lines.old.items ++ bytes_at source.now (run_places runs.now keys.now)) }
 {
     let mut left = keys;
     for run in runs {
         let (own, rest) = cut(left, run.keys);
         let graph = &source.records.record(run.number).target;
-        append_lines(source.dict, graph, own, bytes);
+        add_lines(alloc, graph, own, lines)?;
         left = rest;
     }
+    Ok(())
 }
 
-/// The lines of runs of keys, one after another. Memory is asked for as `next_piece` of `gs_lines` does.
+/// The lines of runs of keys, one after another. Memory is asked for as `next_piece` of `gs_lines` does, and
+/// for what lines of each run have after their texts.
 pub fn quads(
     alloc: Global,
     source: &Source,
     runs: &[Run],
     keys: &[Key],
-) -> Result<Vec<u8>, AllocError>
+) -> Result<Lines, AllocError>
     requires kept { All (IsRecordRun source.now) runs.now }
     requires given { KeysAreGiven source.now keys.now }
-    ensures { IfOk result (λ bytes. bytes.items
-        ≡ bytes_at source.now (run_places runs.now keys.now)) }
+    ensures { IfOk result (λ l. l.items ≡ bytes_at source.now (run_places runs.now keys.now)) }
 {
-    let mut ends = 0;
-    let Some(size) = quads_size(source, runs, keys, &mut ends) else {
-        return Err(AllocError);
-    };
-    let mut bytes = room_for(alloc, size, ends)?;
-    append_quads(source, runs, keys, &mut bytes);
-    Ok(bytes)
+    let mut lines = source.dict.lines(alloc, keys.len())?;
+    add_quads(alloc, source, runs, keys, &mut lines)?;
+    lines.finish()
 }
 
 /// The last place of a record's keys, or the one given where it has none.

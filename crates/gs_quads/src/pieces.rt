@@ -8,12 +8,13 @@ use crate::walks::find_places;
 use gs_dict::Dict;
 use gs_pool::{Key, Pool};
 use gs_records::Records;
+use gs_texts::Lines;
 use std::alloc::{AllocError, Global};
 
 /// Lines of a read of all graphs, the place of the last of them, and whether none are left.
 #[derive(Drop)]
 pub struct QuadPiece {
-    pub bytes: Vec<u8>,
+    pub lines: Lines,
     /// Where the next piece begins: the number of a record, and a key of its graph. `None` where the
     /// piece has no line.
     pub last: Option<(u32, Key)>,
@@ -24,7 +25,9 @@ pub struct QuadPiece {
 /// where it is `None`, and `count` of them at most; graphs without a line are passed over. One key more
 /// is looked for, which says whether any are left. Memory is wanted for that many keys, 12 bytes each,
 /// but no more than 4,097 where fewer are found; for 16 bytes for each graph that has a line among them;
-/// for 256 numbers at a time; and for the bytes of the lines and 256 more, if there are any.
+/// for what the lines of each of these have after their texts; for 256 numbers at a time; for 32 bytes a
+/// line, which say where its texts stand; for the bytes of the lines and 256 more, if there are any; and
+/// for a few small blocks.
 pub fn next_quads(
     alloc: Global,
     dict: &Dict,
@@ -50,9 +53,9 @@ pub fn next_quads(
     let is_end = found.keys.len() <= most;
     found.keys.truncate(most);
     let last = last_place(&found.runs, &found.keys);
-    let bytes = quads(alloc, &source, &found.runs, &found.keys)?;
+    let lines = quads(alloc, &source, &found.runs, &found.keys)?;
     Ok(QuadPiece {
-        bytes,
+        lines,
         last,
         is_end,
     })

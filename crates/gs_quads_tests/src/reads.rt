@@ -112,12 +112,17 @@ fn push_pieces(
     let mut from = None;
     'pieces: for _ in 0..9 {
         let piece = next_lines(alloc, dict, pool, records, version, from, count)?;
-        read.extend_from_slice(piece.bytes.as_slice())?;
-        if piece.is_end {
+        let QuadPiece {
+            lines,
+            last,
+            is_end,
+        } = piece;
+        read.extend_from_slice(lines.into_bytes().as_slice())?;
+        if is_end {
             return read.extend_from_slice(b".");
         }
         read.extend_from_slice(b"-")?;
-        from = piece.last;
+        from = last;
     }
     Ok(())
 }

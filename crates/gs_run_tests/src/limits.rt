@@ -80,9 +80,7 @@ fn printed_line(alloc: Global, store: &mut Small, line: &str) -> Result<String, 
     let event = event(alloc, line)?;
     let answer = store.step(&event);
     drop(event);
-    let text = words(alloc, &answer);
-    drop(answer);
-    Ok(text?)
+    Ok(words(alloc, answer)?)
 }
 
 /// Whether a schedule prints this over a store.

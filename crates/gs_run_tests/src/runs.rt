@@ -70,9 +70,7 @@ fn printed_by(alloc: Global, mut store: Store, events: &[Event]) -> Result<Strin
     let answers = store.run(events);
     drop(store);
     let answers = answers?;
-    let text = printed(alloc, answers.as_slice());
-    drop(answers);
-    Ok(text?)
+    Ok(printed(alloc, answers)?)
 }
 
 /// The same over a plain store.
@@ -84,9 +82,7 @@ fn printed_by_plain(
     let answers = run(alloc, &mut store, events);
     drop(store);
     let answers = answers?;
-    let text = printed(alloc, answers.as_slice());
-    drop(answers);
-    Ok(text?)
+    Ok(printed(alloc, answers)?)
 }
 
 /// Whether events print the one over the store of a schedule, and the other over a plain one.

@@ -229,7 +229,7 @@ pub fn after_piece(alloc: Global, asked: Asked, due: Vec<u8>, answer: Answer) ->
     let mut due = due;
     match answer {
         Answer::Lines(lines, end) => {
-            let phase = match push_piece(alloc, &mut due, lines, end) {
+            let phase = match push_piece(alloc, &mut due, lines.into_bytes(), end) {
                 Ok(()) => after_lines(asked, end),
                 Err(_) => without_lines(asked, end),
             };

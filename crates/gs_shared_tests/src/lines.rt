@@ -131,13 +131,15 @@ fn reads<C: CountedLedger, T: CountedLedger, B: Room, R: Wait>(
     line: &str,
     is_last: bool,
 ) -> bool {
-    let answer = act(rt, store, pass, Action::Piece(1));
-    let is_right = match &answer {
-        Answer::Lines(lines, end) => *end == is_last && lines.as_slice() == line.as_bytes(),
-        _ => false,
-    };
-    drop(answer);
-    is_right
+    match act(rt, store, pass, Action::Piece(1)) {
+        Answer::Lines(lines, end) => {
+            end == is_last && lines.into_bytes().as_slice() == line.as_bytes()
+        }
+        other => {
+            drop(other);
+            false
+        }
+    }
 }
 
 /// Begins a reading, and reads its first line, which is not the last.

@@ -100,9 +100,10 @@ pub fn read(alloc: Global, graph: &Graph) -> Result<usize, Refusal> {
     let mut bytes = 0usize;
     for _ in 0..=graph.nodes() {
         let piece = graph.next_lines(alloc, from, STEP as u32)?;
-        bytes = bytes.saturating_add(piece.bytes.len());
         from = piece.last;
-        if piece.is_end {
+        let is_end = piece.is_end;
+        bytes = bytes.saturating_add(piece.lines.into_bytes().len());
+        if is_end {
             break;
         }
     }

@@ -10,6 +10,8 @@ mod holds;
 #[cfg(test)]
 mod lengths;
 #[cfg(test)]
+mod lines;
+#[cfg(test)]
 mod nodes;
 #[cfg(test)]
 mod outcome;

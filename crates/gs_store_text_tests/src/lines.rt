@@ -7,7 +7,7 @@ ghost use Rattle.gs_keys.specs.Roots.{IsGraphAt};
 
 use gs_dict::{Dict, TermId};
 use gs_keys::ByText;
-use gs_lines::next_piece;
+use gs_lines::{Piece, next_piece};
 use gs_model::Refusal;
 use gs_pool::{Key, Pool};
 use gs_term::TermText;
@@ -101,12 +101,17 @@ fn push_pieces(
     let mut from = None;
     for _ in 0..9 {
         let piece = next_piece(alloc, dict, pool, root, from, count)?;
-        read.extend_from_slice(piece.bytes.as_slice())?;
-        if piece.is_end {
+        let Piece {
+            lines,
+            last,
+            is_end,
+        } = piece;
+        read.extend_from_slice(lines.into_bytes().as_slice())?;
+        if is_end {
             return read.extend_from_slice(b".");
         }
         read.extend_from_slice(b"-")?;
-        from = piece.last;
+        from = last;
     }
     Ok(())
 }

@@ -3,7 +3,7 @@ use gs_event::Answer;
 use std::alloc::{AllocError, Global};
 
 /// An answer in the words of a schedule.
-pub fn words(alloc: Global, answer: &Answer) -> Result<String, AllocError> {
+pub fn words(alloc: Global, answer: Answer) -> Result<String, AllocError> {
     match answer {
         Answer::Opened(number) => format!(in alloc; "opened {number}\n"),
         Answer::Staged => format!(in alloc; "staged\n"),
@@ -15,13 +15,14 @@ pub fn words(alloc: Global, answer: &Answer) -> Result<String, AllocError> {
         }
         Answer::Pinned(status, _) => format!(in alloc; "{status}\n"),
         Answer::Lines(lines, end) => {
-            let text = str::from_utf8(lines.as_slice()).unwrap_or("no text");
-            let last = if *end { "end" } else { "more" };
+            let bytes = lines.into_bytes();
+            let text = str::from_utf8(bytes.as_slice()).unwrap_or("no text");
+            let last = if end { "end" } else { "more" };
             format!(in alloc; "{text}{last}\n")
         }
         Answer::Cancelled => format!(in alloc; "cancelled\n"),
         Answer::Reclaimed(freed, left) => {
-            let rest = if *left { "more" } else { "done" };
+            let rest = if left { "more" } else { "done" };
             format!(in alloc; "reclaimed {freed} {rest}\n")
         }
         Answer::Refused(refusal) => {
@@ -44,7 +45,7 @@ pub fn answered(alloc: Global, printed: &str) -> Result<String, AllocError> {
 }
 
 /// What answers print.
-pub fn printed(alloc: Global, answers: &[Answer]) -> Result<String, AllocError> {
+pub fn printed(alloc: Global, answers: Vec<Answer>) -> Result<String, AllocError> {
     let mut text = String::new(alloc);
     for answer in answers {
         text.push_str(words(alloc, answer)?.as_str())?;

@@ -120,7 +120,7 @@ all_place b s seat v last reads ready = (subst (IsReady b s) reads ready).known.
 
 -- a piece after which lines are left
 more_of_all : (b : Books) (s v : ℕ) (last : Option Place) (count : ℕ) (piece : QuadPiece) → 0 < count → piece.is_end ≡ false → IsQuadPiece b.dict.terms b.pool v b.records last count piece → IsReady b s (ReadingAll v last)
-    → Acts b b s (ReadingAll v last) (ReadingAll v piece.last) (PieceOf count) (Lines piece.bytes false)
+    → Acts b b s (ReadingAll v last) (ReadingAll v piece.last) (PieceOf count) (Lines piece.lines false)
 more_of_all b s v last count piece some more p ready = record {
   fits = (some, p.bytes, sym more ∙ p.end);
   totals = same_totals b b refl refl refl refl refl;
@@ -136,17 +136,17 @@ more_of_all b s v last count piece some more p ready = record {
 }
 
 pub all_more : (b : Books) (s : ℕ) (seat : Seat) (v : ℕ) (last : Option Place) (count : ℕ) (piece : QuadPiece) → seat ≡ ReadingAll v last → 0 < count → piece.is_end ≡ false → IsQuadPiece b.dict.terms b.pool v b.records last count piece → IsReady b s seat
-    → Acts b b s seat (ReadingAll v piece.last) (PieceOf count) (Lines piece.bytes false)
+    → Acts b b s seat (ReadingAll v piece.last) (PieceOf count) (Lines piece.lines false)
 all_more b s seat v last count piece reads some more p =
-    subst (λ x. IsReady b s x → Acts b b s x (ReadingAll v piece.last) (PieceOf count) (Lines piece.bytes false)) (sym reads) (more_of_all b s v last count piece some more p)
+    subst (λ x. IsReady b s x → Acts b b s x (ReadingAll v piece.last) (PieceOf count) (Lines piece.lines false)) (sym reads) (more_of_all b s v last count piece some more p)
 
 -- the last piece
 none_of_all : (b : Books) (s v : ℕ) (last : Option Place) (count : ℕ) (piece : QuadPiece) → 0 < count → piece.is_end ≡ true → IsQuadPiece b.dict.terms b.pool v b.records last count piece → IsReady b s (ReadingAll v last)
-    → Acts b (record b { versions = with_pin b.versions s None }) s (ReadingAll v last) Idle (PieceOf count) (Lines piece.bytes true)
-none_of_all b s v last count piece some ends p ready = read_over b s (ReadingAll v last) (PieceOf count) (Lines piece.bytes true) (some, p.bytes, sym ends ∙ p.end) refl refl refl refl refl refl (λ x none. none) ready
+    → Acts b (record b { versions = with_pin b.versions s None }) s (ReadingAll v last) Idle (PieceOf count) (Lines piece.lines true)
+none_of_all b s v last count piece some ends p ready = read_over b s (ReadingAll v last) (PieceOf count) (Lines piece.lines true) (some, p.bytes, sym ends ∙ p.end) refl refl refl refl refl refl (λ x none. none) ready
 
 pub all_last : (b : Books) (s : ℕ) (seat : Seat) (v : ℕ) (last : Option Place) (count : ℕ) (piece : QuadPiece) (w : Pins) → seat ≡ ReadingAll v last → 0 < count → piece.is_end ≡ true → IsQuadPiece b.dict.terms b.pool v b.records last count piece
-    → w ≡ with_pin b.versions s None → IsReady b s seat → Acts b (record b { versions = w }) s seat Idle (PieceOf count) (Lines piece.bytes true)
+    → w ≡ with_pin b.versions s None → IsReady b s seat → Acts b (record b { versions = w }) s seat Idle (PieceOf count) (Lines piece.lines true)
 all_last b s seat v last count piece w reads some ends p pin =
-    subst (λ x. IsReady b s x → Acts b (record b { versions = w }) s x Idle (PieceOf count) (Lines piece.bytes true)) (sym reads)
-    (λ ready. subst (λ y. Acts b (record b { versions = y }) s (ReadingAll v last) Idle (PieceOf count) (Lines piece.bytes true)) (sym pin) (none_of_all b s v last count piece some ends p ready))
+    subst (λ x. IsReady b s x → Acts b (record b { versions = w }) s x Idle (PieceOf count) (Lines piece.lines true)) (sym reads)
+    (λ ready. subst (λ y. Acts b (record b { versions = y }) s (ReadingAll v last) Idle (PieceOf count) (Lines piece.lines true)) (sym pin) (none_of_all b s v last count piece some ends p ready))

@@ -150,7 +150,7 @@ pin_found b s seat t v w idle is pin =
 
 -- a piece after which lines are left
 more_left : (b : Books) (s : ℕ) (root : Option ℕ) (last : Option Key) (count : ℕ) (piece : Piece) → 0 < count → piece.is_end ≡ false → IsPiece b.dict.terms b.pool root last count piece → IsReady b s (Reading root last)
-    → Acts b b s (Reading root last) (Reading root piece.last) (PieceOf count) (Lines piece.bytes false)
+    → Acts b b s (Reading root last) (Reading root piece.last) (PieceOf count) (Lines piece.lines false)
 more_left b s root last count piece some more p ready = record {
   fits = (some, p.bytes, sym more ∙ p.end);
   totals = same_totals b b refl refl refl refl refl;
@@ -166,20 +166,20 @@ more_left b s root last count piece some more p ready = record {
 }
 
 pub piece_more : (b : Books) (s : ℕ) (seat : Seat) (root : Option ℕ) (last : Option Key) (count : ℕ) (piece : Piece) → seat ≡ Reading root last → 0 < count → piece.is_end ≡ false → IsPiece b.dict.terms b.pool root last count piece → IsReady b s seat
-    → Acts b b s seat (Reading root piece.last) (PieceOf count) (Lines piece.bytes false)
+    → Acts b b s seat (Reading root piece.last) (PieceOf count) (Lines piece.lines false)
 piece_more b s seat root last count piece reads some more p =
-    subst (λ x. IsReady b s x → Acts b b s x (Reading root piece.last) (PieceOf count) (Lines piece.bytes false)) (sym reads) (more_left b s root last count piece some more p)
+    subst (λ x. IsReady b s x → Acts b b s x (Reading root piece.last) (PieceOf count) (Lines piece.lines false)) (sym reads) (more_left b s root last count piece some more p)
 
 -- the last piece
 none_left : (b : Books) (s : ℕ) (root : Option ℕ) (last : Option Key) (count : ℕ) (piece : Piece) → 0 < count → piece.is_end ≡ true → IsPiece b.dict.terms b.pool root last count piece → IsReady b s (Reading root last)
-    → Acts b (record b { versions = with_pin b.versions s None }) s (Reading root last) Idle (PieceOf count) (Lines piece.bytes true)
-none_left b s root last count piece some ends p ready = read_over b s (Reading root last) (PieceOf count) (Lines piece.bytes true) (some, p.bytes, sym ends ∙ p.end) refl refl refl refl refl refl (λ x none. none) ready
+    → Acts b (record b { versions = with_pin b.versions s None }) s (Reading root last) Idle (PieceOf count) (Lines piece.lines true)
+none_left b s root last count piece some ends p ready = read_over b s (Reading root last) (PieceOf count) (Lines piece.lines true) (some, p.bytes, sym ends ∙ p.end) refl refl refl refl refl refl (λ x none. none) ready
 
 pub piece_last : (b : Books) (s : ℕ) (seat : Seat) (root : Option ℕ) (last : Option Key) (count : ℕ) (piece : Piece) (w : Pins) → seat ≡ Reading root last → 0 < count → piece.is_end ≡ true → IsPiece b.dict.terms b.pool root last count piece
-    → w ≡ with_pin b.versions s None → IsReady b s seat → Acts b (record b { versions = w }) s seat Idle (PieceOf count) (Lines piece.bytes true)
+    → w ≡ with_pin b.versions s None → IsReady b s seat → Acts b (record b { versions = w }) s seat Idle (PieceOf count) (Lines piece.lines true)
 piece_last b s seat root last count piece w reads some ends p pin =
-    subst (λ x. IsReady b s x → Acts b (record b { versions = w }) s x Idle (PieceOf count) (Lines piece.bytes true)) (sym reads)
-    (λ ready. subst (λ y. Acts b (record b { versions = y }) s (Reading root last) Idle (PieceOf count) (Lines piece.bytes true)) (sym pin) (none_left b s root last count piece some ends p ready))
+    subst (λ x. IsReady b s x → Acts b (record b { versions = w }) s x Idle (PieceOf count) (Lines piece.lines true)) (sym reads)
+    (λ ready. subst (λ y. Acts b (record b { versions = y }) s (Reading root last) Idle (PieceOf count) (Lines piece.lines true)) (sym pin) (none_left b s root last count piece some ends p ready))
 
 -- a piece of no line is not allowed
 none_allowed : (x : SeatView) (count : ℕ) → count ≡ 0 → allows x (PieceOf count) ≡ false

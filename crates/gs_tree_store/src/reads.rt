@@ -147,10 +147,10 @@ fn piece_of_one(
     if piece.is_end {
         books.versions.unpin(number);
         *seat = Seat::Idle;
-        return Answer::Lines(piece.bytes, true);
+        return Answer::Lines(piece.lines, true);
     }
     *seat = Seat::Reading(root, piece.last);
-    Answer::Lines(piece.bytes, false)
+    Answer::Lines(piece.lines, false)
 }
 
 /// At most `count` lines of a root's graph: those after the key `last`, or from the first on.
@@ -190,10 +190,10 @@ fn piece_of_all(
     if piece.is_end {
         books.versions.unpin(number);
         *seat = Seat::Idle;
-        return Answer::Lines(piece.bytes, true);
+        return Answer::Lines(piece.lines, true);
     }
     *seat = Seat::ReadingAll(version, piece.last);
-    Answer::Lines(piece.bytes, false)
+    Answer::Lines(piece.lines, false)
 }
 
 /// At most `count` lines of all graphs of a version: those after the place `last`, or from the first on.

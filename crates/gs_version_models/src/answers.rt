@@ -4,6 +4,7 @@ use gs_drawn_events::{TRIPLES, made_name, push_line};
 use gs_event::Answer;
 use gs_graph_models::{Set, quads_of};
 use gs_term::GraphName;
+use gs_texts::Lines;
 use std::alloc::{AllocError, Global};
 
 fn lines_of(alloc: Global, triples: Set) -> Result<Vec<u8>, AllocError> {
@@ -61,7 +62,7 @@ pub fn answer_words(alloc: Global, answer: &Answer) -> Result<String, AllocError
             format!(in alloc; "status {status} {text}, commit {commit}")
         }
         Answer::Pinned(status, commit) => format!(in alloc; "pinned {status}, commit {commit}"),
-        Answer::Lines(lines, is_end) => lines_words(alloc, lines.as_slice(), *is_end),
+        Answer::Lines(lines, is_end) => lines_words(alloc, lines.bytes().unwrap_or(b"?"), *is_end),
         Answer::Cancelled => String::from_str(alloc, "cancelled"),
         Answer::Reclaimed(freed, left) => {
             let rest = if *left { "more" } else { "done" };
@@ -82,7 +83,15 @@ fn is_same_name(a: &Option<GraphName>, b: &Option<GraphName>) -> bool {
     }
 }
 
-/// Whether two answers are the same.
+/// The same answer, with its lines put together.
+pub fn put_together(answer: Answer) -> Answer {
+    match answer {
+        Answer::Lines(lines, is_end) => Answer::Lines(Lines::of(lines.into_bytes()), is_end),
+        other => other,
+    }
+}
+
+/// Whether two answers are the same, whose lines are put together.
 pub fn is_same(a: &Answer, b: &Answer) -> bool {
     match (a, b) {
         (Answer::Opened(a), Answer::Opened(b)) => a == b,
@@ -92,7 +101,7 @@ pub fn is_same(a: &Answer, b: &Answer) -> bool {
         }
         (Answer::Pinned(a, commit), Answer::Pinned(b, number)) => a == b && commit == number,
         (Answer::Lines(lines, is_end), Answer::Lines(others, ends)) => {
-            is_end == ends && lines.as_slice() == others.as_slice()
+            matches!((lines.bytes(), others.bytes()), (Some(a), Some(b)) if a == b && is_end == ends)
         }
         (Answer::Cancelled, Answer::Cancelled) => true,
         (Answer::Reclaimed(a, left), Answer::Reclaimed(b, other)) => a == b && left == other,
@@ -111,7 +120,7 @@ fn is_named(
     Ok(name.as_bytes() == text.as_bytes())
 }
 
-/// Whether an answer is what the model says.
+/// Whether an answer, whose lines are put together, is what the model says.
 pub fn is_said(alloc: Global, answer: &Answer, said: &Said) -> Result<bool, AllocError> {
     match (answer, said) {
         (Answer::Opened(a), Said::Opened(b)) => Ok(a == b),
@@ -123,11 +132,11 @@ pub fn is_said(alloc: Global, answer: &Answer, said: &Said) -> Result<bool, Allo
         (Answer::Pinned(a, commit), Said::Pinned(b, own)) => Ok(a == b && commit == own),
         (Answer::Lines(lines, is_end), Said::Lines(triples, ends)) => {
             let wanted = lines_of(alloc, *triples)?;
-            Ok(is_end == ends && lines.as_slice() == wanted.as_slice())
+            Ok(is_end == ends && lines.bytes() == Some(wanted.as_slice()))
         }
         (Answer::Lines(lines, is_end), Said::Quads(sections, ends)) => {
             let wanted = quads_of(alloc, sections.as_slice())?;
-            Ok(is_end == ends && lines.as_slice() == wanted.as_slice())
+            Ok(is_end == ends && lines.bytes() == Some(wanted.as_slice()))
         }
         (Answer::Cancelled, Said::Cancelled) => Ok(true),
         (Answer::Refused(a), Said::Refused(b)) => Ok(a == b),

@@ -10,7 +10,7 @@ mod phases;
 mod rules;
 mod versions;
 
-pub use answers::{answer_words, is_said, is_same, said_words};
+pub use answers::{answer_words, is_said, is_same, put_together, said_words};
 pub use models::Model;
 pub use outcomes::{Growth, MOST_FOR_TRIPLE, Outcome, Said};
 pub use phases::Phase;

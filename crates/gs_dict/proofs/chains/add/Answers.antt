@@ -1,7 +1,7 @@
 use Rattle.std.proofs.Common.{◌≡◌, ◌+◌, ◌∙◌, ap, refl, length, set, arith}
 use Rattle.std.proofs.lemmas.List.{get_or_read_under}
 use Rattle.gs_dict.specs.Chains.{bucket_of}
-use Rattle.gs_dict.proofs.PlaceLemmas.{keeps_same}
+use Rattle.gs_texts.proofs.PlaceLemmas.{keeps_same}
 use Rattle.gs_dict.proofs.TableLemmas.{table_agree, keeps_agree, Added, added_as}
 use Rattle.gs_dict.proofs.chains.add.Goals as goal
 

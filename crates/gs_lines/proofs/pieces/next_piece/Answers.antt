@@ -16,4 +16,4 @@ returns c =
     let long : c.len.result ≡ length c.in_ok-keys.keys.items = omega arith in
     piece_is c.args.dict.now.terms c.args.pool.now c.args.root c.requires.graph c.args.from c.args.count c.in_ok-keys.keys.items c.truncate.new.self.items _ c.requires.some
     c.in_ok-keys.ensures c.truncate.ensures.items
-    (c.in_ok-bytes.ensures ∙ ap (bytes_of c.args.dict.now.terms) c.as_slice-kept.ensures.value) (cc) (grind (arith, nat_tests))
+    (c.in_ok-lines.ensures ∙ ap (bytes_of c.args.dict.now.terms) c.as_slice-kept.ensures.value) (cc) (grind (arith, nat_tests))

@@ -19,6 +19,6 @@ returns c =
     c.in_ok-found.ensures.places
     (ap (run_places runs) c.truncate.ensures.items ∙ runs_take runs keys c.args.count found.whole)
     (many ∙ sym (places_long runs keys found.whole))
-    (c.in_ok-bytes.ensures ∙ (λ i. bytes_at s (run_places (c.deref-3.ensures.value i) (c.deref-4.ensures.value i))))
+    (c.in_ok-lines.ensures ∙ (λ i. bytes_at s (run_places (c.deref-3.ensures.value i) (c.deref-4.ensures.value i))))
     (c.last_place-last.ensures ∙ (λ i. last_place (run_places (c.deref.ensures.value i) (c.deref-2.ensures.value i))))
     refl

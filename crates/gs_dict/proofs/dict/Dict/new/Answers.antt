@@ -11,10 +11,10 @@ enough_as is = record { some = omega (arith, is); power = (10, is); short = omeg
 
 pub invariant_of-result : goal.invariant_of-result
 invariant_of-result c =
-    rw (c.new.ensures, c.new-2.ensures.items)
-    (dict_empty c.in_ok-heads.heads.items _ _ c.in_ok-heads.ensures.empty (enough_as c.in_ok-heads.ensures.count) (omega arith))
+    rw (c.new-2.ensures.items)
+    (dict_empty c.in_ok-texts.texts c.in_ok-heads.heads.items _ _ c.in_ok-heads.ensures.empty (enough_as c.in_ok-heads.ensures.count) (omega arith))
 
 pub returns : goal.returns
 returns c =
-    let none : terms_of c.new.result c.new-2.result.items ≡ [] = ap (λ xs. terms_of xs c.new-2.result.items) c.new.ensures ∙ (ap (terms_of []) c.new-2.ensures.items ∙ terms_none) in
+    let none : terms_of c.in_ok-texts.texts c.new-2.result.items ≡ [] = ap (terms_of c.in_ok-texts.texts) c.new-2.ensures.items ∙ terms_none c.in_ok-texts.texts in
     ap (λ ts. record { terms = ts; last = c.min.result }) none ∙ ap none_numbered c.min.ensures
