@@ -1,5 +1,5 @@
 //! Lines of terms, which are built up by numbers.
-ghost use Rattle.std.specs.Prelude.{◌≡◌, ◌<◌, length, IfOk, OnOk, OnErr};
+ghost use Rattle.std.specs.Prelude.{◌≡◌, ◌<◌, ◌++◌, [], length, IfOk, OnOk, OnErr};
 ghost use Rattle.gs_dict.specs.Chains.{dict_entry_at};
 ghost use Rattle.gs_dict.specs.Kept.{terms_of};
 ghost use Rattle.gs_dict.specs.TermLines.{lines_of_terms, ending_with, with_terms, HaveTexts};
@@ -7,7 +7,7 @@ ghost use Rattle.gs_dict.specs.Numbering.{term_at};
 
 use crate::chains::Entry;
 use crate::numbers::TermId;
-use gs_texts::{Block, Lines, LinesBuilder, Place, Texts};
+use gs_texts::{Lines, LinesBuilder, Place, Texts};
 use std::alloc::{AllocError, Global};
 use std::marker::Model;
 
@@ -56,12 +56,19 @@ impl<'a> TermLinesBuilder<'a> {
         })
     }
 
-    /// Gives the lines that follow this tail.
-    pub fn begin(&mut self, tail: Block) -> Result<(), AllocError>
-        ensures ok { OnOk result (self.new ≡ ending_with self.old tail) }
+    /// Gives the lines that follow an empty tail. Takes no memory.
+    pub fn begin(&mut self)
+        ensures { self.new ≡ ending_with self.old [] }
+    {
+        self.lines.begin();
+    }
+
+    /// Adds bytes to the tail of the lines that follow.
+    pub fn extend_tail(&mut self, bytes: &[u8]) -> Result<(), AllocError>
+        ensures ok { OnOk result (self.new ≡ ending_with self.old (self.old.tail ++ bytes.now)) }
         ensures err { OnErr result (self.new ≡ self.old) }
     {
-        self.lines.begin(tail)
+        self.lines.extend_tail(bytes)
     }
 
     /// Adds the line of three terms, by their numbers.

@@ -1,7 +1,7 @@
 //! Keys as lines in a graph.
 ghost use Rattle.std.specs.Prelude.{◌≡◌, ◌++◌, IfOk, OnOk};
 ghost use Rattle.gs_tree.specs.Keys.{AllKeys};
-ghost use Rattle.gs_dict.specs.TermLines.{with_terms};
+ghost use Rattle.gs_dict.specs.TermLines.{ending_with, with_terms};
 ghost use Rattle.gs_keys.specs.Texts.{term_at, IsGiven};
 ghost use Rattle.gs_lines.specs.Graphs.{bytes_in};
 ghost use Rattle.gs_lines.specs.Pieces.{bytes_of};
@@ -10,27 +10,19 @@ ghost use Rattle.gs_lines.specs.Lines.{line_tail};
 use gs_dict::{Dict, TermId, TermLinesBuilder};
 use gs_pool::Key;
 use gs_term::Target;
-use gs_texts::{Block, Lines};
+use gs_texts::Lines;
 use std::alloc::{AllocError, Global};
 
-/// What a tail has beside a name: a space, the dot and the line feed.
-const MARKS: usize = 3;
-
-/// What a line in a graph has after its three texts, and the space after each.
-fn tail_of(alloc: Global, graph: &Target) -> Result<Block, AllocError>
-    ensures { IfOk result (λ tail. tail ≡ line_tail graph.now) }
+/// Gives the lines that follow what a line in a graph has after its three texts, and the space after each.
+fn end_as_in(graph: &Target, lines: &mut TermLinesBuilder) -> Result<(), AllocError>
+    ensures { OnOk result (lines.new ≡ ending_with lines.old (line_tail graph.now)) }
 {
-    let name: &[u8] = match graph {
-        Target::Default => b"",
-        Target::Named(name) => name.in_brackets(),
-    };
-    let mut tail = Block::with_room(alloc, name.len().saturating_add(MARKS))?;
-    if let Target::Named(_) = graph {
-        tail.push(name)?;
-        tail.push(b" ")?;
+    lines.begin();
+    if let Target::Named(name) = graph {
+        lines.extend_tail(name.in_brackets())?;
+        lines.extend_tail(b" ")?;
     }
-    tail.push(b".\n")?;
-    Ok(tail)
+    lines.extend_tail(b".\n")
 }
 
 /// Adds the line of a key.
@@ -52,7 +44,6 @@ fn add_line(lines: &mut TermLinesBuilder, key: Key) -> Result<(), AllocError>
 
 /// Adds the lines of keys in a graph.
 pub fn add_lines(
-    alloc: Global,
     graph: &Target,
     keys: &[Key],
     lines: &mut TermLinesBuilder,
@@ -65,7 +56,7 @@ pub fn add_lines(
     if keys.is_empty() {
         return Ok(());
     }
-    lines.begin(tail_of(alloc, graph)?)?;
+    end_as_in(graph, lines)?;
     for key in keys {
         add_line(lines, *key)?;
     }
@@ -79,6 +70,6 @@ pub fn lines(alloc: Global, dict: &Dict, keys: &[Key]) -> Result<Lines, AllocErr
     ensures { IfOk result (λ l. l.items ≡ bytes_of dict.now.terms keys.now) }
 {
     let mut lines = dict.lines(alloc, keys.len())?;
-    add_lines(alloc, &Target::Default, keys, &mut lines)?;
+    add_lines(&Target::Default, keys, &mut lines)?;
     lines.finish()
 }

@@ -14,7 +14,6 @@ use std::alloc::{AllocError, Global};
 
 /// Adds the lines of runs of keys.
 fn add_quads(
-    alloc: Global,
     source: &Source,
     runs: &[Run],
     keys: &[Key],
@@ -30,7 +29,7 @@ fn add_quads(
     for run in runs {
         let (own, rest) = cut(left, run.keys);
         let graph = &source.records.record(run.number).target;
-        add_lines(alloc, graph, own, lines)?;
+        add_lines(graph, own, lines)?;
         left = rest;
     }
     Ok(())
@@ -49,7 +48,7 @@ pub fn quads(
     ensures { IfOk result (λ l. l.items ≡ bytes_at source.now (run_places runs.now keys.now)) }
 {
     let mut lines = source.dict.lines(alloc, keys.len())?;
-    add_quads(alloc, source, runs, keys, &mut lines)?;
+    add_quads(source, runs, keys, &mut lines)?;
     lines.finish()
 }
 

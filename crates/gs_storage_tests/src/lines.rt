@@ -4,7 +4,7 @@ use crate::outcome::none_wrong;
 use crate::terms::term;
 use gs_dict::{Dict, TermId};
 use gs_model::Refusal;
-use gs_texts::{Block, Lines};
+use gs_texts::Lines;
 use std::alloc::Global;
 use std::test::Fail;
 
@@ -60,9 +60,8 @@ fn lines_of(alloc: Global, dict: &Dict, row: &[Line]) -> Result<Lines, Refusal> 
     let mut lines = dict.lines(alloc, row.len())?;
     let mut number = 0usize;
     for line in row {
-        let mut tail = Block::new(alloc);
-        tail.push(TAILS[number % 2])?;
-        lines.begin(tail)?;
+        lines.begin();
+        lines.extend_tail(TAILS[number % 2])?;
         number = number.saturating_add(1);
         if !dict.has(TermId { number: line[0] })
             || !dict.has(TermId { number: line[1] })

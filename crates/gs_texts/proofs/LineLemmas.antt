@@ -1,18 +1,20 @@
 -- Lines of places: how many bytes they have, and that they stay with one line or tail more, and over sealed blocks alone.
 use Rattle.std.proofs.Common.{◌≡◌, ℕ, ◌+◌, ◌-◌, ◌<◌, List, [], ◌∷◌, ◌++◌, length, map, get_or, take, drop, refl, ap, sym, ◌∙◌, subst, arith, length-append, length-take, length-drop}
 use Rattle.std.specs.List.{All}
-use Rattle.std.proofs.lemmas.List.{get_or_append_left, get_or-take, get_or_push, length_push, map-append, append-nil}
+use Rattle.std.proofs.lemmas.List.{get_or_append_left, get_or-take, length_push, map-append, append-nil}
 use Rattle.std.proofs.lemmas.List.Elements.{All-head, All-tail}
 use Rattle.std.proofs.lemmas.List.Folds.{concat-append}
+use Rattle.std.specs.Prelude.{slice_range}
 use Rattle.std.specs.List.{concat}
 use Rattle.gs_texts.specs.declared.places.Place.{Place}
 use Rattle.gs_texts.specs.declared.parts.LinePlaces.{LinePlaces}
-use Rattle.gs_texts.specs.Places.{block_of, offset_of, length_of, block_at, last_block, sealed_of, LiesInBlock, text_in}
+use Rattle.gs_texts.specs.Places.{block_of, offset_of, length_of, block_at, sealed_of, LiesInBlock, text_in}
+use Rattle.gs_texts.proofs.PlaceLemmas.{part_of_longer}
 use Rattle.gs_texts.specs.Lines.{line_of_texts, line_placed, lines_placed, LiesThere, IsSealedLine}
 
 -- the bytes of lines with one more
 pub lines_push :
-    (blocks tails : List (List ℕ)) (ls : List LinePlaces) (l : LinePlaces)
+    (blocks : List (List ℕ)) (tails : List ℕ) (ls : List LinePlaces) (l : LinePlaces)
     → lines_placed blocks tails (ls ++ l ∷ []) ≡ lines_placed blocks tails ls ++ line_placed blocks tails l
 lines_push blocks tails ls l =
     ap concat (map-append (line_placed blocks tails) ls (l ∷ []))
@@ -20,7 +22,7 @@ lines_push blocks tails ls l =
 
 -- lines whose bytes are each the same have the same bytes
 lines_same :
-    (P : LinePlaces → Type 0) (blocks tails later longer : List (List ℕ)) (ls : List LinePlaces)
+    (P : LinePlaces → Type 0) (blocks : List (List ℕ)) (tails : List ℕ) (later : List (List ℕ)) (longer : List ℕ) (ls : List LinePlaces)
     → ((l : LinePlaces) → P l → line_placed later longer l ≡ line_placed blocks tails l) → All P ls → lines_placed later longer ls ≡ lines_placed blocks tails ls
 lines_same P blocks tails later longer [] same all = refl
 lines_same P blocks tails later longer (l ∷ ls) same all =
@@ -42,25 +44,21 @@ pub line_length :
 line_length blocks s p o tail in_s in_p in_o =
     grind (arith, length-append, text_length blocks s in_s, text_length blocks p in_p, text_length blocks o in_o)
 
--- with one tail more, the texts of lines lie there still
-pub there_begun :
-    (blocks tails : List (List ℕ)) (tail : List ℕ) (ls : List LinePlaces) → All (LiesThere blocks tails) ls → All (LiesThere blocks (tails ++ tail ∷ [])) ls
-there_begun blocks tails tail ls all k d within =
+-- with more bytes after the tails, the texts of lines lie there still
+pub there_extended :
+    (blocks : List (List ℕ)) (tails more : List ℕ) (ls : List LinePlaces) → All (LiesThere blocks tails) ls → All (LiesThere blocks (tails ++ more)) ls
+there_extended blocks tails more ls all k d within =
     let there = all k d within in
-    record { subject = there.subject; predicate = there.predicate; object = there.object; tail = omega (arith, there.tail, length_push tails tail) }
+    record { subject = there.subject; predicate = there.predicate; object = there.object; tail = omega (arith, there.tail, length-append tails more) }
 
 -- and the lines have the same bytes
-pub lines_begun :
-    (blocks tails : List (List ℕ)) (tail : List ℕ) (ls : List LinePlaces) → All (LiesThere blocks tails) ls
-    → lines_placed blocks (tails ++ tail ∷ []) ls ≡ lines_placed blocks tails ls
-lines_begun blocks tails tail ls all =
-    lines_same (LiesThere blocks tails) blocks tails blocks (tails ++ tail ∷ []) ls
+pub lines_extended :
+    (blocks : List (List ℕ)) (tails more : List ℕ) (ls : List LinePlaces) → All (LiesThere blocks tails) ls
+    → lines_placed blocks (tails ++ more) ls ≡ lines_placed blocks tails ls
+lines_extended blocks tails more ls all =
+    lines_same (LiesThere blocks tails) blocks tails blocks (tails ++ more) ls
     (λ (l : LinePlaces) (there : LiesThere blocks tails l).
-    ap (line_of_texts (text_in blocks l.subject) (text_in blocks l.predicate) (text_in blocks l.object)) (get_or_append_left tails (tail ∷ []) [] l.tail there.tail)) all
-
--- the tail that was added is the last one
-pub last_begun : (tails : List (List ℕ)) (tail : List ℕ) → last_block (tails ++ tail ∷ []) ≡ tail
-last_begun tails tail = get_or_push tails tail [] (length (tails ++ tail ∷ []) - 1) (omega (arith, length_push tails tail))
+    ap (line_of_texts (text_in blocks l.subject) (text_in blocks l.predicate) (text_in blocks l.object)) (part_of_longer l.tail_from l.tail_count tails more there.tail)) all
 
 -- what is shared of blocks: the sealed ones, and an open one without bytes
 abbrev shared : List (List ℕ) → List (List ℕ)
@@ -87,7 +85,7 @@ text_shared blocks p sealed =
 
 -- the texts of lines in sealed blocks lie in what is shared
 pub there_shared :
-    (blocks later tails : List (List ℕ)) (ls : List LinePlaces) → later ≡ sealed_of blocks ++ [] ∷ [] → All (LiesThere blocks tails) ls → All (IsSealedLine blocks) ls
+    (blocks later : List (List ℕ)) (tails : List ℕ) (ls : List LinePlaces) → later ≡ sealed_of blocks ++ [] ∷ [] → All (LiesThere blocks tails) ls → All (IsSealedLine blocks) ls
     → All (LiesThere later tails) ls
 there_shared blocks later tails ls is all sealed =
     subst (λ (z : List (List ℕ)). All (LiesThere z tails) ls) (sym is) (λ (k : ℕ) (d : LinePlaces) (within : k < length ls).
@@ -102,10 +100,10 @@ there_shared blocks later tails ls is all sealed =
 
 -- and the lines have the same bytes
 pub lines_shared :
-    (blocks later tails : List (List ℕ)) (ls : List LinePlaces) → later ≡ sealed_of blocks ++ [] ∷ [] → All (IsSealedLine blocks) ls
+    (blocks later : List (List ℕ)) (tails : List ℕ) (ls : List LinePlaces) → later ≡ sealed_of blocks ++ [] ∷ [] → All (IsSealedLine blocks) ls
     → lines_placed later tails ls ≡ lines_placed blocks tails ls
 lines_shared blocks later tails ls is sealed =
     ap (λ z. lines_placed z tails ls) is
     ∙ lines_same (IsSealedLine blocks) blocks tails (shared blocks) tails ls
     (λ (l : LinePlaces) (apart : IsSealedLine blocks l).
-    λ i. line_of_texts (text_shared blocks l.subject apart.subject i) (text_shared blocks l.predicate apart.predicate i) (text_shared blocks l.object apart.object i) (block_at tails l.tail)) sealed
+    λ i. line_of_texts (text_shared blocks l.subject apart.subject i) (text_shared blocks l.predicate apart.predicate i) (text_shared blocks l.object apart.object i) (slice_range tails l.tail_from (l.tail_from + l.tail_count))) sealed

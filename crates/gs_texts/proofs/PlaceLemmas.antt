@@ -8,7 +8,7 @@ use Rattle.gs_texts.specs.declared.places.Place.{Place}
 use Rattle.gs_texts.specs.Places.{IsPlaceOf, block_of, offset_of, length_of, block_at, text_in, LiesInBlock, HoldsText, KeepsBytes}
 
 -- a part of a list is the same part of a longer one
-part_of_longer : (o n : ℕ) (xs ys : List ℕ) → o + n ≤ length xs → take (o + n - o) (drop o (xs ++ ys)) ≡ take (o + n - o) (drop o xs)
+pub part_of_longer : (o n : ℕ) (xs ys : List ℕ) → o + n ≤ length xs → take (o + n - o) (drop o (xs ++ ys)) ≡ take (o + n - o) (drop o xs)
 part_of_longer o n xs ys inside =
     let within : o ≤ length xs = omega arith in
     let left : o + n - o ≤ length (drop o xs) = omega (arith, length-drop o xs) in

@@ -1,9 +1,8 @@
 -- Lines that are built up from places of texts.
-use Rattle.std.specs.Prelude.{◌≡◌, ℕ, ◌+◌, ◌-◌, ◌<◌, Bool, true, List, [], ◌∷◌, ◌++◌, length, refl}
+use Rattle.std.specs.Prelude.{◌≡◌, ℕ, ◌≤◌, Bool, true, List, [], ◌++◌, length, drop, refl}
 use Rattle.std.specs.List.{All}
 use Rattle.std.specs.Coded.{Coded, code_by, coded×, coded_ℕ, coded_list}
 use Rattle.gs_texts.specs.declared.parts.LinePlaces.{LinePlaces}
-use Rattle.gs_texts.specs.Places.{last_block}
 use Rattle.gs_texts.specs.Lines.{line_of_texts, lines_placed, LiesThere, IsSealedLine}
 
 -- the blocks of the texts, the tail of the lines that follow, and the bytes of the lines so far
@@ -31,14 +30,14 @@ abbrev pub with_line : Built → List ℕ → List ℕ → List ℕ → Built
 with_line b subject predicate object =
     record { blocks = b.blocks; tail = b.tail; items = b.items ++ line_of_texts subject predicate object b.tail }
 
--- the lines that stand at these places; the last tail is that of the lines that follow
-abbrev pub built : List (List ℕ) → List (List ℕ) → List LinePlaces → Built
-built blocks tails ls = record { blocks = blocks; tail = last_block tails; items = lines_placed blocks tails ls }
+-- the lines that stand at these places; the tail of the lines that follow begins at `start` among all
+abbrev pub built : List (List ℕ) → List ℕ → ℕ → List LinePlaces → Built
+built blocks tails start ls = record { blocks = blocks; tail = drop start tails; items = lines_placed blocks tails ls }
 
--- The texts of the lines are there, and one tail at least; so many bytes have the lines; where it is said that they are
+-- The texts of the lines are there, and the last tail begins among all; so many bytes have the lines; where it is said that they are
 -- sealed, all their texts are in sealed blocks.
-pub record IsBuilt (blocks tails : List (List ℕ)) (ls : List LinePlaces) (size : ℕ) (is_sealed : Bool) : Type 0 where
+pub record IsBuilt (blocks : List (List ℕ)) (tails : List ℕ) (start : ℕ) (ls : List LinePlaces) (size : ℕ) (is_sealed : Bool) : Type 0 where
   pub there : All (LiesThere blocks tails) ls
-  pub some : 0 < length tails
+  pub begun : start ≤ length tails
   pub counted : size ≡ length (lines_placed blocks tails ls)
   pub sealed : is_sealed ≡ true → All (IsSealedLine blocks) ls

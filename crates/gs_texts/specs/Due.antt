@@ -1,5 +1,5 @@
 -- Lines that are put together later.
-use Rattle.std.specs.Prelude.{◌≡◌, ℕ, ◌+◌, ◌≤◌, List, [], length, Option, Some, None, Vec, Box, vec_len, vec_capacity}
+use Rattle.std.specs.Prelude.{ℕ, ◌+◌, ◌≤◌, List, [], length, Option, Some, None, Vec, Box, vec_len, vec_capacity}
 use Rattle.std.specs.List.{All}
 use Rattle.std.specs.declared.alloc.Global.{Global}
 use Rattle.gs_texts.specs.declared.parts.Parts.{Parts}
@@ -7,11 +7,11 @@ use Rattle.gs_texts.specs.Lines.{lines_placed, LiesThere}
 
 -- the lines that are made of these parts
 abbrev pub lines_in : Parts → List ℕ
-lines_in p = lines_placed p.texts p.tails.items p.lines.items
+lines_in p = lines_placed p.texts p.tails p.lines.items
 
 -- their texts are there
 abbrev pub AreThere : Parts → Type 0
-AreThere p = All (LiesThere p.texts p.tails.items) p.lines.items
+AreThere p = All (LiesThere p.texts p.tails) p.lines.items
 
 -- the lines that are due, if any are
 abbrev pub due_in : Option (Box Parts Global) → List ℕ

@@ -1,5 +1,5 @@
 //! Lines that are built up.
-ghost use Rattle.std.specs.Prelude.{◌≡◌, ◌+◌, ◌-◌, ◌<◌, ◌≤◌, ◌^◌, ◌==◌, [], length, vec_len, vec_capacity, if◌then◌else◌, IfOk, OnOk, OnErr, SomeIff};
+ghost use Rattle.std.specs.Prelude.{◌≡◌, ◌+◌, ◌-◌, ◌++◌, ◌<◌, ◌≤◌, ◌^◌, ◌==◌, [], length, vec_len, vec_capacity, if◌then◌else◌, IfOk, OnOk, OnErr, SomeIff};
 ghost use Rattle.std.specs.Bool.{Decides};
 ghost use Rattle.gs_texts.specs.Places.{LiesInBlock, text_in};
 ghost use Rattle.gs_texts.specs.Lines.{IsSealedLine, line_of_texts};
@@ -23,7 +23,10 @@ const FRAME_ROOM: usize = 256;
 pub struct LinesBuilder<'a> {
     alloc: Global,
     texts: &'a Texts,
-    tails: Vec<Block>,
+    /// What lines have after their texts, one after another.
+    tails: Block,
+    /// Where the tail of the lines that follow begins.
+    start: usize,
     lines: Vec<LinePlaces>,
     /// How many bytes the lines have.
     size: usize,
@@ -38,9 +41,9 @@ impl<'a> Model for LinesBuilder<'a> {
 
     ghost coded = { built_code };
 
-    ghost view = { λ b. built b.texts.now b.tails.items b.lines.items };
+    ghost view = { λ b. built b.texts.now b.tails b.start b.lines.items };
 
-    ghost invariant = { λ b. IsBuilt b.texts.now b.tails.items b.lines.items b.size b.is_sealed };
+    ghost invariant = { λ b. IsBuilt b.texts.now b.tails b.start b.lines.items b.size b.is_sealed };
 }
 
 /// Room for lines of so many bytes, and for 256 more, but none where there is no line.
@@ -56,14 +59,6 @@ fn room_for(alloc: Global, size: usize) -> Result<Vec<u8>, AllocError>
         return Err(AllocError);
     };
     Vec::with_capacity(alloc, room)
-}
-
-/// The number of the last tail, where there is one.
-fn last_of(tails: &[Block]) -> usize
-    requires { 0 < length tails.now }
-    ensures { result ≡ length tails.now - 1 }
-{
-    tails.len() - 1
 }
 
 /// Whether the texts of a line are all in sealed blocks.
@@ -82,26 +77,37 @@ impl<'a> LinesBuilder<'a> {
     ) -> Result<LinesBuilder<'a>, AllocError>
         ensures { IfOk result (λ b. b ≡ built_over texts.now) }
     {
-        let mut tails = Vec::with_capacity(alloc, 2)?;
-        tails.push_reserved(Block::new(alloc));
         Ok(LinesBuilder {
             alloc,
             texts,
-            tails,
+            tails: Block::new(alloc),
+            start: 0,
             lines: Vec::with_capacity(alloc, count)?,
             size: 0,
             is_sealed: true,
         })
     }
 
-    /// Gives the lines that follow this tail.
-    pub fn begin(&mut self, tail: Block) -> Result<(), AllocError>
-        ensures ok { OnOk result (self.new ≡ with_tail self.old tail) }
+    /// Gives the lines that follow an empty tail. Takes no memory.
+    pub fn begin(&mut self)
+        ensures { self.new ≡ with_tail self.old [] }
+    {
+        self.start = self.tails.len();
+    }
+
+    /// Adds bytes to the tail of the lines that follow.
+    pub fn extend_tail(&mut self, bytes: &[u8]) -> Result<(), AllocError>
+        ensures ok { OnOk result (self.new ≡ with_tail self.old (self.old.tail ++ bytes.now)) }
         ensures err { OnErr result (self.new ≡ self.old) }
     {
-        self.tails.reserve(1)?;
-        self.tails.push_reserved(tail);
-        Ok(())
+        self.tails.push(bytes)
+    }
+
+    /// How many bytes the tail of the lines that follow has.
+    fn tail_count(&self) -> usize
+        ensures { result ≡ length self.now.tail }
+    {
+        self.tails.len() - self.start
     }
 
     /// The bytes of the lines with one more whose texts stand at these places, where 64 bits can count
@@ -116,7 +122,7 @@ impl<'a> LinesBuilder<'a> {
             SomeIff result (length self.now.items + length line < 2 ^ 64)
             (length self.now.items + length line) }
     {
-        let tail = self.tails[last_of(self.tails.as_slice())].len();
+        let tail = self.tail_count();
         let texts = subject.length() + predicate.length() + object.length() + 3;
         self.size.checked_add(texts)?.checked_add(tail)
     }
@@ -142,7 +148,8 @@ impl<'a> LinesBuilder<'a> {
             subject,
             predicate,
             object,
-            tail: last_of(self.tails.as_slice()),
+            tail_from: self.start,
+            tail_count: self.tail_count(),
         };
         self.lines.push(line)?;
         self.size = size;
@@ -163,6 +170,7 @@ impl<'a> LinesBuilder<'a> {
             lines,
             size,
             is_sealed,
+            ..
         } = self;
         let mut bytes = room_for(alloc, size)?;
         if is_sealed && size > 0 {
@@ -176,7 +184,7 @@ impl<'a> LinesBuilder<'a> {
                 },
             );
         }
-        put_together(texts, tails.as_slice(), lines.as_slice(), &mut bytes);
+        put_together(texts, &tails, lines.as_slice(), &mut bytes);
         Ok(Lines::of(bytes))
     }
 }

@@ -70,12 +70,7 @@ impl Lines {
         let Some(due) = due else {
             return bytes;
         };
-        put_together(
-            &due.texts,
-            due.tails.as_slice(),
-            due.lines.as_slice(),
-            &mut bytes,
-        );
+        put_together(&due.texts, &due.tails, due.lines.as_slice(), &mut bytes);
         bytes
     }
 }

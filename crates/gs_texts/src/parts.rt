@@ -7,20 +7,22 @@ use crate::blocks::Block;
 use crate::places::Place;
 use crate::texts::Texts;
 
-/// Where the three texts of a line stand, and the number of what it has after them.
+/// Where the three texts of a line stand, and where what it has after them begins among all tails, with how
+/// many bytes that has.
 #[derive(Clone, Copy, Debug, Drop)]
 pub struct LinePlaces {
     pub subject: Place,
     pub predicate: Place,
     pub object: Place,
-    pub tail: usize,
+    pub tail_from: usize,
+    pub tail_count: usize,
 }
 
-/// What lines are made of: texts, where they stand, and what lines have after them.
+/// What lines are made of: texts, what lines have after them, one after another, and where these stand.
 #[derive(Debug, Drop)]
 pub struct Parts {
     pub texts: Texts,
-    pub tails: Vec<Block>,
+    pub tails: Block,
     pub lines: Vec<LinePlaces>,
 }
 
@@ -35,7 +37,7 @@ fn append(text: &[u8], bytes: &mut Vec<u8>)
 }
 
 /// Appends a line, for which there is room.
-fn append_line(texts: &Texts, tails: &[Block], line: LinePlaces, bytes: &mut Vec<u8>)
+fn append_line(texts: &Texts, tails: &Block, line: LinePlaces, bytes: &mut Vec<u8>)
     requires there { LiesThere texts.now tails.now line }
     requires room { vec_len bytes.old + length (line_placed texts.now tails.now line)
         ≤ vec_capacity bytes.old }
@@ -50,11 +52,11 @@ fn append_line(texts: &Texts, tails: &[Block], line: LinePlaces, bytes: &mut Vec
     bytes.push_reserved(b' ');
     append(texts.get(line.object), bytes);
     bytes.push_reserved(b' ');
-    append(tails[line.tail].as_slice(), bytes);
+    append(tails.part(line.tail_from, line.tail_count), bytes);
 }
 
 /// Appends lines, for which there is room.
-fn append_lines(texts: &Texts, tails: &[Block], lines: &[LinePlaces], bytes: &mut Vec<u8>)
+fn append_lines(texts: &Texts, tails: &Block, lines: &[LinePlaces], bytes: &mut Vec<u8>)
     requires there { All (LiesThere texts.now tails.now) lines.now }
     requires room { vec_len bytes.old + length (lines_placed texts.now tails.now lines.now)
         ≤ vec_capacity bytes.old }
@@ -76,7 +78,7 @@ fn ends_of(text: &[u8]) -> u8 {
 /// The first and last bytes of the objects of lines, joined by or. These texts lie apart in memory. Read
 /// here one after another, they are fetched together; read only when its line is written, each would be
 /// waited for by itself.
-fn ends_of_objects(texts: &Texts, tails: &[Block], lines: &[LinePlaces]) -> u8
+fn ends_of_objects(texts: &Texts, tails: &Block, lines: &[LinePlaces]) -> u8
     requires { All (LiesThere texts.now tails.now) lines.now }
 {
     let mut ends = 0;
@@ -88,7 +90,7 @@ fn ends_of_objects(texts: &Texts, tails: &[Block], lines: &[LinePlaces]) -> u8
 
 /// Puts lines together after the bytes that are there, for which there is room. Takes no memory where
 /// there is room for one byte more.
-pub fn put_together(texts: &Texts, tails: &[Block], lines: &[LinePlaces], bytes: &mut Vec<u8>)
+pub fn put_together(texts: &Texts, tails: &Block, lines: &[LinePlaces], bytes: &mut Vec<u8>)
     requires there { All (LiesThere texts.now tails.now) lines.now }
     requires room { vec_len bytes.old + length (lines_placed texts.now tails.now lines.now)
         ≤ vec_capacity bytes.old }

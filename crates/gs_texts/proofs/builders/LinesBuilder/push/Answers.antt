@@ -1,4 +1,4 @@
-use Rattle.std.proofs.Common.{ap, sym, subst, ◌∙◌, ◌≡◌, arith, ◌+◌, ◌-◌, length, true}
+use Rattle.std.proofs.Common.{ap, refl, sym, subst, length-drop, ◌∙◌, ◌≡◌, ◌+◌, length, true}
 use Rattle.gs_texts.specs.declared.parts.LinePlaces.{LinePlaces}
 use Rattle.gs_texts.specs.Lines.{line_of_texts}
 use Rattle.gs_texts.specs.Building.{Built, with_line}
@@ -9,8 +9,8 @@ use Rattle.gs_texts.proofs.builders.LinesBuilder.push.Goals.{then-self, else-sel
 
 pub invariant_of-self-2 : goal.invariant_of-self-2
 invariant_of-self-2 c =
-    let line : LinePlaces = record { subject = c.args.subject; predicate = c.args.predicate; object = c.args.object; tail = c.last_of.result } in
-    holds_pushed c.self.inside.texts.now c.self.inside.tails.items c.self.inside.lines.items c.push.new.self.items line c.in_ok-push.ensures.items (omega (arith, c.last_of.ensures))
+    let line : LinePlaces = record { subject = c.args.subject; predicate = c.args.predicate; object = c.args.object; tail_from = c.self.inside.start; tail_count = c.tail_count.result } in
+    holds_pushed c.self.inside.texts.now c.self.inside.tails c.self.inside.start c.self.inside.lines.items c.push.new.self.items line c.in_ok-push.ensures.items c.self.invariant.begun refl (c.tail_count.ensures ∙ (ap (λ (b : Built). length b.tail) (sym c.self.view_is) ∙ length-drop c.self.inside.start c.self.inside.tails))
     c.self.inside.size c.in-Some.size c.self.inside.is_sealed c.if-self.self c.self.invariant
     (subst (λ (b : Built). LiesInBlock b.blocks c.args.subject) (sym c.self.view_is) c.requires.subject)
     (subst (λ (b : Built). LiesInBlock b.blocks c.args.predicate) (sym c.self.view_is) c.requires.predicate)
@@ -25,6 +25,6 @@ invariant_of-self-2 c =
 
 pub returns-clause-ok : goal.returns-clause-ok
 returns-clause-ok c =
-    let line : LinePlaces = record { subject = c.args.subject; predicate = c.args.predicate; object = c.args.object; tail = c.last_of.result } in
-    built_pushed c.self.inside.texts.now c.self.inside.tails.items c.self.inside.lines.items c.push.new.self.items line c.in_ok-push.ensures.items (omega (arith, c.last_of.ensures))
+    let line : LinePlaces = record { subject = c.args.subject; predicate = c.args.predicate; object = c.args.object; tail_from = c.self.inside.start; tail_count = c.tail_count.result } in
+    built_pushed c.self.inside.texts.now c.self.inside.tails c.self.inside.start c.self.inside.lines.items c.push.new.self.items line c.in_ok-push.ensures.items c.self.invariant.begun refl (c.tail_count.ensures ∙ (ap (λ (b : Built). length b.tail) (sym c.self.view_is) ∙ length-drop c.self.inside.start c.self.inside.tails))
     ∙ ap (λ (b : Built). with_line b (text_in b.blocks c.args.subject) (text_in b.blocks c.args.predicate) (text_in b.blocks c.args.object)) c.self.view_is
