@@ -70,7 +70,7 @@ fn find_keys(
 
 /// The next lines of a root: those of its keys above `from`, or of all where it is `None`, and
 /// `count` of them at most. One key more is looked for, which says whether any are left. Memory is
-/// wanted for that many keys, 12 bytes each, but no more than 4,097 where fewer are found; for 32 bytes
+/// wanted for that many keys, 12 bytes each, but no more than 4,097 where fewer are found; for 40 bytes
 /// a line, which say where its texts stand; for the bytes of the lines and 256 more, if there are any;
 /// and for a few small blocks.
 pub fn next_piece(

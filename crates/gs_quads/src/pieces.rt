@@ -25,7 +25,7 @@ pub struct QuadPiece {
 /// where it is `None`, and `count` of them at most; graphs without a line are passed over. One key more
 /// is looked for, which says whether any are left. Memory is wanted for that many keys, 12 bytes each,
 /// but no more than 4,097 where fewer are found; for 16 bytes for each graph that has a line among them;
-/// for what the lines of each of these have after their texts; for 256 numbers at a time; for 32 bytes a
+/// for what the lines of each of these have after their texts; for 256 numbers at a time; for 40 bytes a
 /// line, which say where its texts stand; for the bytes of the lines and 256 more, if there are any; and
 /// for a few small blocks.
 pub fn next_quads(

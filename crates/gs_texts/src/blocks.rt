@@ -49,13 +49,6 @@ impl Block {
         self.bytes.len()
     }
 
-    /// All bytes.
-    pub fn as_slice(&self) -> &[u8]
-        ensures { result.now ≡ self.now }
-    {
-        self.bytes.as_slice()
-    }
-
     /// So many bytes from an offset on.
     pub fn part(&self, offset: usize, count: usize) -> &[u8]
         requires { offset + count ≤ length self.now }

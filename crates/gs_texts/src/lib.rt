@@ -9,7 +9,6 @@ mod places;
 mod sealed;
 mod texts;
 
-pub use blocks::Block;
 pub use builders::LinesBuilder;
 pub use lines::Lines;
 pub use places::Place;
