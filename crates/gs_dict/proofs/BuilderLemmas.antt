@@ -1,20 +1,20 @@
 -- Lines of terms, by the numbers of their entries.
-use Rattle.std.proofs.Common.{◌≡◌, ℕ, ◌<◌, List, [], ◌++◌, length, ap, sym, ◌∙◌, subst, arith}
+use Rattle.std.proofs.Common.{◌≡◌, ℕ, ◌<◌, List, [], ◌++◌, length, ap, sym, ◌∙◌, subst}
 use Rattle.std.specs.Option.{unwrap_or}
-use Rattle.gs_model.specs.Terms.{Term, Iri, text_of}
-use Rattle.gs_texts.specs.Places.{LiesInBlock, text_in}
+use Rattle.gs_model.specs.Terms.{Iri, text_of}
+use Rattle.gs_texts.specs.Places.{text_in}
 use Rattle.gs_texts.specs.Lines.{line_of_texts}
 use Rattle.gs_texts.specs.Building.{Built, with_line}
 use Rattle.gs_dict.specs.declared.chains.Entry.{Entry}
-use Rattle.gs_dict.specs.Numbering.{term_at}
+use Rattle.gs_dict.specs.Numbering.{term_at, HasTerm}
 use Rattle.gs_dict.specs.Chains.{dict_entry_at, text_at}
 use Rattle.gs_dict.specs.Kept.{terms_of}
 use Rattle.gs_dict.specs.TermLines.{TermLines, lines_by_numbers, with_terms, HaveTexts}
-use Rattle.gs_dict.proofs.TermLemmas.{length-terms_of, get-terms_of}
+use Rattle.gs_dict.proofs.TermLemmas.{get-terms_of, has_inside}
 
 -- a number of a term is that of an entry
-pub number_within : (b : Built) (es : List Entry) (d : TermLines) (n : ℕ) → lines_by_numbers b es ≡ d → n < length d.terms → n < length es
-number_within b es d n is inside = omega (arith, inside, ap (λ (t : TermLines). length t.terms) is, length-terms_of b.blocks es)
+pub number_within : (b : Built) (es : List Entry) (d : TermLines) (n : ℕ) → lines_by_numbers b es ≡ d → HasTerm d.terms n → n < length es
+number_within b es d n is has = has_inside b.blocks es n (subst (λ (t : TermLines). HasTerm t.terms n) (sym is) has)
 
 -- the text of the term of a number is that at its entry's place
 gathered_text :

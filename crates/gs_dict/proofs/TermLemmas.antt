@@ -1,21 +1,22 @@
 -- The terms of a dictionary, and what stays true of it.
-use Rattle.std.proofs.Common.{◌≡◌, ℕ, ◌+◌, ◌<◌, ◌≤◌, List, [], ◌∷◌, ◌++◌, length, map, ap, sym, ◌∙◌, subst, refl, inl, inr, arith, get_or, nat_lt, Bool, false, Option, Some, None}
+use Rattle.std.proofs.Common.{◌≡◌, ℕ, ◌+◌, ◌<◌, ◌≤◌, List, [], ◌∷◌, ◌++◌, length, map, ap, sym, is_some, ◌∙◌, subst, refl, inl, inr, arith, get_or, nat_lt, Bool, true, false, Option, Some, None}
 use Rattle.std.proofs.lemmas.Bool.{cases_eq}
-use Rattle.std.proofs.lemmas.Option.{slice_get-get_or, slice_get_within, same_Some}
+use Rattle.std.proofs.lemmas.Option.{same_Some}
 use Rattle.std.proofs.lemmas.List.FromFn.{length-map-range_with_len, get_or-map-range_with_len, map-range_with_len_more, fill_by_all}
-use Rattle.std.specs.List.{range_with_len, slice_get}
+use Rattle.std.specs.List.{range_with_len}
 use Rattle.std.specs.Option.{option_map}
 use Rattle.std.specs.declared.hash.FoldHasher.{FoldHasher}
 use Rattle.gs_model.specs.Limits.{last_term}
-use Rattle.gs_model.specs.Terms.{Term, Iri, text_of, IsTerm}
+use Rattle.gs_model.specs.Terms.{Term, text_of, IsTerm}
 use Rattle.gs_model.specs.Texts.{term_of, IsCanonical}
 use Rattle.std.proofs.lemmas.Bool.Decides.{nat_tests}
 use Rattle.std.specs.Bool.{Decides}
 use Rattle.gs_model.proofs.TextLemmas.{term_of-text_of, text_of-injective}
 use Rattle.gs_dict.specs.declared.chains.Entry.{Entry}
 use Rattle.gs_dict.specs.Chains.{IsTable, AreEnough, EntryHas, Meets, KeepsTexts, dict_entry_at, text_at}
-use Rattle.gs_dict.specs.Numbering.{Numbered, IsNumberOf, IsNew, IsDistinct, GivesNextNumber}
-use Rattle.gs_dict.specs.Kept.{IsDict, hash_of, term_of_entry, terms_of}
+use Rattle.gs_dict.specs.Numbering.{Terms, Numbered, term_given, HasTerm, IsNumberOf, IsNew, IsDistinct, GivesNextNumber}
+use Rattle.gs_dict.specs.Kept.{IsDict, hash_of, term_of_entry, given_by_entry, terms_of}
+use Rattle.gs_dict.proofs.NumberLemmas.{has_below, number_below}
 
 -- what a dictionary of these parts shows
 abbrev pub shown : List (List ℕ) → List Entry → ℕ → Numbered
@@ -24,19 +25,35 @@ shown blocks es last = record { terms = terms_of blocks es; last = last }
 -- as many terms as entries
 pub length-terms_of : (blocks : List (List ℕ)) (es : List Entry) → length (terms_of blocks es) ≡ length es
 unfolding terms_of
-length-terms_of blocks es = length-map-range_with_len (term_of_entry blocks es) 0 (length es)
+length-terms_of blocks es = length-map-range_with_len (given_by_entry blocks es) 0 (length es)
 
 -- the term of a number is that of its text
-pub get-terms_of : (blocks : List (List ℕ)) (es : List Entry) (i : ℕ) → i < length es → slice_get (terms_of blocks es) i ≡ Some (term_of_entry blocks es i)
+pub get-terms_of : (blocks : List (List ℕ)) (es : List Entry) (i : ℕ) → i < length es → term_given (terms_of blocks es) i ≡ Some (term_of_entry blocks es i)
 unfolding terms_of
 get-terms_of blocks es i inside =
-    let within : i < length (terms_of blocks es) = omega (arith, length-terms_of blocks es) in
     let same : 0 + i ≡ i = omega arith in
-    slice_get-get_or (terms_of blocks es) i (Iri []) within
-    ∙ ap (λ (t : Term). Some t) (get_or-map-range_with_len (term_of_entry blocks es) 0 (length es) i i (Iri []) inside same)
+    get_or-map-range_with_len (given_by_entry blocks es) 0 (length es) i i None inside same
 
 pub number_inside : (blocks : List (List ℕ)) (es : List Entry) (i : ℕ) (t : Term) → IsNumberOf (terms_of blocks es) i t → i < length es
-number_inside blocks es i t number = omega (arith, slice_get_within (terms_of blocks es) i t number, length-terms_of blocks es)
+number_inside blocks es i t number = omega (arith, number_below (terms_of blocks es) i t number, length-terms_of blocks es)
+
+-- a number with a term is that of an entry
+pub has_inside : (blocks : List (List ℕ)) (es : List Entry) (i : ℕ) → HasTerm (terms_of blocks es) i → i < length es
+has_inside blocks es i has = omega (arith, has_below (terms_of blocks es) i has, length-terms_of blocks es)
+
+-- each entry's number has a term, and no other has one
+pub has_entry : (blocks : List (List ℕ)) (es : List Entry) (i : ℕ) → nat_lt i (length es) ≡ is_some (term_given (terms_of blocks es) i)
+has_entry blocks es i = by_test (nat_lt i (length es)) (is_some (term_given (terms_of blocks es) i)) refl refl
+  where
+    by_test : (b c : Bool) → nat_lt i (length es) ≡ b → is_some (term_given (terms_of blocks es) i) ≡ c → b ≡ c
+    by_test true true e f = refl
+    by_test false false e f = refl
+    by_test true false e f = absurd (
+        let inside : i < length es = grind (arith, nat_tests) in
+        let no : true ≡ false = sym (ap is_some (get-terms_of blocks es i inside)) ∙ f in
+        cc
+        )
+    by_test false true e f = absurd (let inside : i < length es = has_inside blocks es i f in grind (arith, nat_tests))
 
 -- a number's text is its term's
 pub number_text :
@@ -55,7 +72,7 @@ text_number blocks es i t inside same =
 -- the text and the term of a number that was given
 pub given_text :
     (blocks : List (List ℕ)) (es : List Entry) (heads : List ℕ) (s : FoldHasher) (last i : ℕ) → IsDict blocks es heads s last → i < length es
-    → option_map text_of (slice_get (terms_of blocks es) i) ≡ Some (text_at blocks es i)
+    → option_map text_of (term_given (terms_of blocks es) i) ≡ Some (text_at blocks es i)
 given_text blocks es heads s last i d inside =
     ap (option_map text_of) (get-terms_of blocks es i inside) ∙ ap (λ (x : List ℕ). Some x) (d.canonical i inside).canonical
 
@@ -92,33 +109,33 @@ new_term blocks es heads s last t d none n number =
 -- each term that was there keeps its number
 below_same :
     (blocks later : List (List ℕ)) (es fs : List Entry) → KeepsTexts blocks es later fs
-    → map (term_of_entry blocks es) (range_with_len 0 (length es)) ≡ map (term_of_entry later fs) (range_with_len 0 (length es))
+    → map (given_by_entry blocks es) (range_with_len 0 (length es)) ≡ map (given_by_entry later fs) (range_with_len 0 (length es))
 below_same blocks later es fs kept =
-    fill_by_all (term_of_entry later fs) (map (term_of_entry blocks es) (range_with_len 0 (length es))) (length es) (Iri [])
-    (length-map-range_with_len (term_of_entry blocks es) 0 (length es))
+    fill_by_all (given_by_entry later fs) (map (given_by_entry blocks es) (range_with_len 0 (length es))) (length es) None
+    (length-map-range_with_len (given_by_entry blocks es) 0 (length es))
     (λ k p.
     let same : 0 + k ≡ k = omega arith in
-    get_or-map-range_with_len (term_of_entry blocks es) 0 (length es) k k (Iri []) p same ∙ ap term_of (sym (kept.text_same k p)))
+    get_or-map-range_with_len (given_by_entry blocks es) 0 (length es) k k None p same ∙ ap (λ x. Some (term_of x)) (sym (kept.text_same k p)))
 
 pub terms_kept :
     (blocks later : List (List ℕ)) (es fs : List Entry) → KeepsTexts blocks es later fs → length fs ≡ length es
     → terms_of later fs ≡ terms_of blocks es
 unfolding terms_of
 terms_kept blocks later es fs kept count =
-    ap (λ m. map (term_of_entry later fs) (range_with_len 0 m)) count ∙ sym (below_same blocks later es fs kept)
+    ap (λ m. map (given_by_entry later fs) (range_with_len 0 m)) count ∙ sym (below_same blocks later es fs kept)
 
 pub terms_more :
     (blocks later : List (List ℕ)) (es fs : List Entry) (t : Term) → KeepsTexts blocks es later fs → length fs ≡ length es + 1
-    → text_at later fs (length es) ≡ text_of t → terms_of later fs ≡ terms_of blocks es ++ t ∷ []
+    → text_at later fs (length es) ≡ text_of t → terms_of later fs ≡ terms_of blocks es ++ Some t ∷ []
 unfolding terms_of
 terms_more blocks later es fs t kept count text =
     let n : ℕ = length es in
     let same : 0 + n ≡ n = omega arith in
     let term : term_of_entry later fs n ≡ t = ap term_of text ∙ term_of-text_of t in
-    ap (λ m. map (term_of_entry later fs) (range_with_len 0 m)) count
-    ∙ (map-range_with_len_more (term_of_entry later fs) 0 n n same
-    ∙ (ap (λ z. z ++ term_of_entry later fs n ∷ []) (sym (below_same blocks later es fs kept))
-    ∙ ap (λ (u : Term). map (term_of_entry blocks es) (range_with_len 0 n) ++ u ∷ []) term))
+    ap (λ m. map (given_by_entry later fs) (range_with_len 0 m)) count
+    ∙ (map-range_with_len_more (given_by_entry later fs) 0 n n same
+    ∙ (ap (λ z. z ++ given_by_entry later fs n ∷ []) (sym (below_same blocks later es fs kept))
+    ∙ ap (λ (u : Term). map (given_by_entry blocks es) (range_with_len 0 n) ++ Some u ∷ []) term))
 
 -- the text of a term is canonical
 pub canonical_text : (t : Term) → IsTerm t → IsCanonical (text_of t)
@@ -236,15 +253,16 @@ option_number None t x given same = absurd (cc)
 option_number (Some u) t x given same = ap (λ (v : Term). Some v) (text_of-injective u t (same_Some (text_of u) x given ∙ same))
 
 pub number_decides :
-    (ts : List Term) (n : ℕ) (t : Term) (x : List ℕ) (r : Bool) → option_map text_of (slice_get ts n) ≡ Some x → Decides r (x ≡ text_of t)
+    (ts : Terms) (n : ℕ) (t : Term) (x : List ℕ) (r : Bool) → option_map text_of (term_given ts n) ≡ Some x → Decides r (x ≡ text_of t)
     → Decides r (IsNumberOf ts n t)
 number_decides ts n t x r given d = (
-  λ yes. option_number (slice_get ts n) t x given (d.0 yes),
+  λ yes. option_number (term_given ts n) t x given (d.0 yes),
   λ number. d.1 (same_Some x (text_of t) (sym given ∙ ap (option_map text_of) number)),
 )
 
-pub no_number : (ts : List Term) (n : ℕ) (t : Term) → nat_lt n (length ts) ≡ false → IsNumberOf ts n t → ⊥
-no_number ts n t past number = let inside : n < length ts = slice_get_within ts n t number in grind (arith, nat_tests)
+-- a number without a term is no term's
+pub no_number : (ts : Terms) (n : ℕ) (t : Term) → is_some (term_given ts n) ≡ false → IsNumberOf ts n t → ⊥
+no_number ts n t none number = let no : true ≡ false = sym (ap is_some number) ∙ none in cc
 
 not_less : (m n : ℕ) → nat_lt m n ≡ false → n ≤ m
 not_less m n h = grind (arith, nat_tests)

@@ -1,5 +1,5 @@
 -- How a dictionary is kept: its terms are those of the texts in its blocks.
-use Rattle.std.specs.Prelude.{◌≡◌, ℕ, ◌+◌, ◌<◌, ◌≤◌, List, length, map, bit_and}
+use Rattle.std.specs.Prelude.{◌≡◌, ℕ, ◌+◌, ◌<◌, ◌≤◌, List, length, map, bit_and, Option, Some}
 use Rattle.std.specs.List.{range_with_len}
 use Rattle.std.specs.Hash.FoldHasher as folding
 use Rattle.std.specs.declared.hash.FoldHasher.{FoldHasher}
@@ -7,6 +7,7 @@ use Rattle.gs_model.specs.Limits.{last_term}
 use Rattle.gs_model.specs.Terms.{Term}
 use Rattle.gs_model.specs.Texts.{term_of, IsCanonical}
 use Rattle.gs_dict.specs.declared.chains.Entry.{Entry}
+use Rattle.gs_dict.specs.Numbering.{Terms}
 use Rattle.gs_dict.specs.Chains.{IsTable, dict_entry_at, text_at}
 
 -- the hash of a text, from a hasher that has been given the seed
@@ -17,9 +18,13 @@ hash_of seeded x = bit_and (folding.finish (folding.write seeded x)) 0xFFFF_FFFF
 abbrev pub term_of_entry : List (List ℕ) → List Entry → ℕ → Term
 term_of_entry blocks es i = term_of (text_at blocks es i)
 
--- the terms, in the order of their numbers
-unfoldable pub terms_of : List (List ℕ) → List Entry → List Term
-terms_of blocks es = map (term_of_entry blocks es) (range_with_len 0 (length es))
+-- what an entry gives its number
+abbrev pub given_by_entry : List (List ℕ) → List Entry → ℕ → Option Term
+given_by_entry blocks es i = Some (term_of_entry blocks es i)
+
+-- the terms by number
+unfoldable pub terms_of : List (List ℕ) → List Entry → Terms
+terms_of blocks es = map (given_by_entry blocks es) (range_with_len 0 (length es))
 
 -- each number has a text of a term, in the chain of its hash, and no two have one text
 pub record IsDict (blocks : List (List ℕ)) (es : List Entry) (heads : List ℕ) (seeded : FoldHasher) (last : ℕ) : Type 0 where

@@ -1,6 +1,6 @@
--- What a dictionary does: it has a list of terms, in the order of their numbers.
-use Rattle.std.specs.Prelude.{◌≡◌, ◌≢◌, ◌⊎◌, ℕ, ◌≤◌, List, [], ◌∷◌, ◌++◌, length, slice_get, Option, Some, None, Result, Ok, Err, refl}
-use Rattle.std.specs.Coded.{Coded, code_by, coded×, coded_ℕ, coded_list}
+-- What a dictionary does: each number has a term, or none.
+use Rattle.std.specs.Prelude.{◌≡◌, ◌≢◌, ◌⊎◌, ℕ, ◌≤◌, List, [], ◌∷◌, ◌++◌, length, slice_index_or, Option, Some, None, IsSome, Result, Ok, Err, refl}
+use Rattle.std.specs.Coded.{Coded, code_by, coded×, coded_ℕ, coded_list, coded_option}
 use Rattle.gs_model.specs.Codes.{term_code}
 use Rattle.std.specs.Option.{unwrap_or}
 use Rattle.gs_model.specs.Terms.{Term, Iri}
@@ -8,14 +8,18 @@ use Rattle.gs_model.specs.declared.refusals.Refusal.{Refusal}
 use Rattle.gs_model.specs.declared.refusals.Refusal.TheVariants.{NoMemory}
 use Rattle.gs_dict.specs.declared.numbers.TermId.{TermId}
 
--- the terms, in the order of their numbers, and the greatest number that may be given
+-- for each number, in their order, its term, or none where it has lost it
+abbrev pub Terms : Type 0
+Terms = List (Option Term)
+
+-- the terms by number, and the greatest number that may be given
 pub record Numbered : Type 0 where
-  pub terms : List Term
+  pub terms : Terms
   pub last : ℕ
 
 -- it is stored as the pair of its fields
 abbrev pub numbered_code : Coded Numbered
-numbered_code = code_by (List Term × ℕ) (coded× (coded_list term_code) coded_ℕ) (λ d. (d.terms, d.last)) (λ p. record { terms = p.0; last = p.1 }) (λ _. refl)
+numbered_code = code_by (Terms × ℕ) (coded× (coded_list (coded_option term_code)) coded_ℕ) (λ d. (d.terms, d.last)) (λ p. record { terms = p.0; last = p.1 }) (λ _. refl)
 
 -- no term has a number yet
 abbrev pub none_numbered : ℕ → Numbered
@@ -23,26 +27,38 @@ none_numbered last = record { terms = []; last = last }
 
 -- one term more, under the next number
 abbrev pub with_next_term : Numbered → Term → Numbered
-with_next_term d t = record { terms = d.terms ++ t ∷ []; last = d.last }
+with_next_term d t = record { terms = d.terms ++ Some t ∷ []; last = d.last }
+
+-- the term of a number, if it has one
+abbrev pub term_given : Terms → ℕ → Option Term
+term_given ts n = slice_index_or ts n None
+
+-- the number has a term
+abbrev pub HasTerm : Terms → ℕ → Type 0
+HasTerm ts n = IsSome (term_given ts n)
 
 -- this number is the term's
-abbrev pub IsNumberOf : List Term → ℕ → Term → Type 0
-IsNumberOf ts n t = slice_get ts n ≡ Some t
+abbrev pub IsNumberOf : Terms → ℕ → Term → Type 0
+IsNumberOf ts n t = term_given ts n ≡ Some t
 
 -- the term has no number
-abbrev pub IsNew : List Term → Term → Type 0
-IsNew ts t = (n : ℕ) → slice_get ts n ≢ Some t
+abbrev pub IsNew : Terms → Term → Type 0
+IsNew ts t = (n : ℕ) → term_given ts n ≢ Some t
 
--- the term of a number, and any where the number was not given
-abbrev pub term_at : List Term → ℕ → Term
-term_at terms n = unwrap_or (slice_get terms n) (Iri [])
+-- the term of a number, and any where it has none
+abbrev pub term_at : Terms → ℕ → Term
+term_at terms n = unwrap_or (term_given terms n) (Iri [])
+
+-- each number that has a term keeps it
+abbrev pub KeepTerms : Terms → Terms → Type 0
+KeepTerms ts us = (n : ℕ) (t : Term) → IsNumberOf ts n t → IsNumberOf us n t
 
 -- no term has two numbers
-abbrev pub IsDistinct : List Term → Type 0
+abbrev pub IsDistinct : Terms → Type 0
 IsDistinct ts = (m n : ℕ) (t : Term) → IsNumberOf ts m t → IsNumberOf ts n t → m ≡ n
 
 -- what looking for a term answers
-abbrev pub LooksUp : List Term → Term → Option TermId → Type 0
+abbrev pub LooksUp : Terms → Term → Option TermId → Type 0
 LooksUp ts t None = IsNew ts t
 LooksUp ts t (Some id) = IsNumberOf ts id.number t
 

@@ -3,7 +3,7 @@ ghost use Rattle.std.specs.Prelude.{◌≡◌, ◌<◌, ◌++◌, [], length, If
 ghost use Rattle.gs_dict.specs.Chains.{dict_entry_at};
 ghost use Rattle.gs_dict.specs.Kept.{terms_of};
 ghost use Rattle.gs_dict.specs.TermLines.{lines_of_terms, ending_with, with_terms, HaveTexts};
-ghost use Rattle.gs_dict.specs.Numbering.{term_at};
+ghost use Rattle.gs_dict.specs.Numbering.{term_at, HasTerm};
 
 use crate::chains::Entry;
 use crate::numbers::TermId;
@@ -78,9 +78,9 @@ impl<'a> TermLinesBuilder<'a> {
         predicate: TermId,
         object: TermId,
     ) -> Result<(), AllocError>
-        requires subject { subject.number < length self.old.terms }
-        requires predicate { predicate.number < length self.old.terms }
-        requires object { object.number < length self.old.terms }
+        requires subject { HasTerm self.old.terms subject.number }
+        requires predicate { HasTerm self.old.terms predicate.number }
+        requires object { HasTerm self.old.terms object.number }
         ensures ok { OnOk result (self.new ≡ with_terms self.old
             (term_at self.old.terms subject.number) (term_at self.old.terms predicate.number)
             (term_at self.old.terms object.number)) }

@@ -1,10 +1,10 @@
 //! The dictionary.
-ghost use Rattle.std.specs.Prelude.{◌≡◌, ◌+◌, ◌<◌, ◌≤◌, length, min, nat_lt, slice_get, Some, MatchResult, ℕ, IfOk};
+ghost use Rattle.std.specs.Prelude.{◌≡◌, ◌+◌, ◌<◌, ◌≤◌, length, min, nat_lt, is_some, Some, MatchResult, ℕ, IfOk};
 ghost use Rattle.std.specs.Bool.{Decides};
 ghost use Rattle.std.specs.Option.{option_map};
 ghost use Rattle.gs_model.specs.Terms.{Term, text_of, IsTerm};
 ghost use Rattle.gs_model.specs.Limits.{last_term};
-ghost use Rattle.gs_dict.specs.Numbering.{IsNumberOf, IsDistinct, LooksUp, Interns, none_numbered};
+ghost use Rattle.gs_dict.specs.Numbering.{IsNumberOf, HasTerm, IsDistinct, LooksUp, Interns, none_numbered, term_given};
 ghost use Rattle.gs_dict.specs.Kept.{hash_of as hash_of_text};
 ghost use Rattle.gs_dict.specs.TermLines.{lines_of_terms};
 
@@ -78,7 +78,7 @@ impl Dict {
         })
     }
 
-    /// How many terms there are.
+    /// How many numbers there are.
     pub fn len(&self) -> usize
         ensures value { result ≡ length self.now.terms }
         ensures fits { length self.now.terms ≤ self.now.last + 1 }
@@ -95,17 +95,17 @@ impl Dict {
         self.len() > self.last as usize
     }
 
-    /// Whether this number was given.
+    /// Whether this number has a term.
     pub fn has(&self, id: TermId) -> bool
-        ensures { result ≡ nat_lt id.number (length self.now.terms) }
+        ensures { result ≡ is_some (term_given self.now.terms id.number) }
     {
-        (id.number as usize) < self.len()
+        (id.number as usize) < self.entries.len()
     }
 
-    /// The canonical text of a number that was given.
+    /// The canonical text of a number that has a term.
     pub fn text(&self, id: TermId) -> &[u8]
-        requires { id.number < length self.now.terms }
-        ensures value { option_map text_of (slice_get self.now.terms id.number) ≡ Some result.now }
+        requires { HasTerm self.now.terms id.number }
+        ensures value { option_map text_of (term_given self.now.terms id.number) ≡ Some result.now }
         ensures valid { (t : Term) → IsNumberOf self.now.terms id.number t → IsTerm t }
     {
         chains::text_at(&self.texts, &self.entries, id.number as usize)

@@ -1,13 +1,14 @@
--- Roots of keys whose numbers were given: sets that are changed, and dictionaries whose terms come and go.
-use Rattle.std.proofs.Common.{◌≡◌, ◌<◌, ℕ, zero, suc, List, [], ◌∷◌, ◌++◌, map, length, slice_get, Option, refl, ap, ◌∙◌, arith}
+-- Roots of keys whose numbers have terms: sets that are changed, and dictionaries whose terms come and go.
+use Rattle.std.proofs.Common.{◌≡◌, ℕ, List, [], ◌∷◌, map, is_some, Option, refl, ap, sym, ◌∙◌}
 use Rattle.std.specs.Option.{option_map, unwrap_or}
 use Rattle.std.specs.Ordering.{ordering_then, nat_cmp}
 use Rattle.std.specs.Cmp.Lexicographic.{slice_cmp}
 use Rattle.std.specs.declared.cmp.Ordering.{Ordering}
 use Rattle.std.specs.declared.cmp.Ordering.TheVariants.{Less, Equal, Greater}
-use Rattle.std.proofs.lemmas.Option.{slice_get_within}
-use Rattle.gs_model.specs.Terms.{Term, Iri, text_of}
+use Rattle.gs_model.specs.Terms.{Iri, text_of}
 use Rattle.gs_model.specs.Graphs.{graph_of}
+use Rattle.gs_dict.specs.Numbering.{term_given}
+use Rattle.gs_dict.proofs.NumberLemmas.{has_number}
 use Rattle.gs_pool.specs.declared.nodes.Key.{Key}
 use Rattle.gs_pool.specs.Pool.{Nodes}
 use Rattle.gs_tree.specs.Keys.{AllKeys, IsRising, insert_key, insert_by, merge_keys}
@@ -15,9 +16,8 @@ use Rattle.gs_tree.specs.Reading.{keys_at}
 use Rattle.gs_tree.specs.Sets.{IsSetAt}
 use Rattle.gs_tree.proofs.Order.{AllKeys-map}
 use Rattle.gs_tree.proofs.ReadingLemmas.{set_readable}
-use Rattle.gs_keys.specs.Texts.{term_at, triple_at, text_at, number_cmp, key_cmp, IsGiven, AgreeOn}
-use Rattle.gs_keys.specs.Roots.{IsGraphAt, IsKeptAmong, IsKept}
-use Rattle.gs_keys.proofs.KeyLemmas.{term_read}
+use Rattle.gs_keys.specs.Texts.{Terms, KeepTerms, term_at, triple_at, text_at, number_cmp, key_cmp, HasTerm, IsGiven, AgreeOn}
+use Rattle.gs_keys.specs.Roots.{IsGraphAt, IsKeptAmong}
 
 module _ (cmp : Key → Key → Ordering) (P : Key → Type 0) where
   -- what holds of a key and of others holds of them all
@@ -34,25 +34,25 @@ module _ (cmp : Key → Key → Ordering) (P : Key → Type 0) where
   all_merge [] ks hx h = h
   all_merge (x ∷ xs) ks hx h = all_merge xs (insert_key cmp x ks) hx.1 (all_insert x ks hx.0 h)
 
--- a set of keys whose numbers were given stands for a graph
-pub set_graph : (terms : List Term) (p : Nodes) (root : Option ℕ) → IsSetAt (key_cmp terms) p root → AllKeys (IsGiven terms) (keys_at p root) → IsGraphAt terms p root
+-- a set of keys whose numbers have terms stands for a graph
+pub set_graph : (terms : Terms) (p : Nodes) (root : Option ℕ) → IsSetAt (key_cmp terms) p root → AllKeys (IsGiven terms) (keys_at p root) → IsGraphAt terms p root
 set_graph terms p root set given = record { set = set_readable (key_cmp terms) p root set; given = given }
 
-module _ (terms later : List Term) where
+module _ (terms later : Terms) where
   -- a number with the same term says the same
-  term_same : (n : ℕ) → slice_get later n ≡ slice_get terms n → term_at later n ≡ term_at terms n
+  term_same : (n : ℕ) → term_given later n ≡ term_given terms n → term_at later n ≡ term_at terms n
   term_same n e = ap (λ o. unwrap_or o (Iri [])) e
 
   -- and has the same text
-  text_same : (n : ℕ) → slice_get later n ≡ slice_get terms n → text_at later n ≡ text_at terms n
+  text_same : (n : ℕ) → term_given later n ≡ term_given terms n → text_at later n ≡ text_at terms n
   text_same n e = ap (λ o. unwrap_or (option_map text_of o) []) e
 
-  -- it was given where it was given before
-  number_same : (n : ℕ) → slice_get later n ≡ slice_get terms n → n < length terms → n < length later
-  number_same n e h = slice_get_within later n (term_at terms n) (e ∙ term_read terms n h)
+  -- it has a term where it had one before
+  number_same : (n : ℕ) → term_given later n ≡ term_given terms n → HasTerm terms n → HasTerm later n
+  number_same n e h = ap is_some e ∙ h
 
   -- two of them are ordered as they were
-  number_cmp_same : (m n : ℕ) → slice_get later m ≡ slice_get terms m → slice_get later n ≡ slice_get terms n → number_cmp later m n ≡ number_cmp terms m n
+  number_cmp_same : (m n : ℕ) → term_given later m ≡ term_given terms m → term_given later n ≡ term_given terms n → number_cmp later m n ≡ number_cmp terms m n
   number_cmp_same m n em en =
       let x = text_same m em in
       let y = text_same n en in
@@ -74,7 +74,7 @@ module _ (terms later : List Term) where
       let o = term_same k.object g.object in
       λ i. record { subject = s i; predicate = p i; object = o i }
 
-  -- its numbers are given where they were
+  -- its numbers have terms where they had
   pub given_same : (k : Key) → IsGiven terms k → AgreeOn terms later k → IsGiven later k
   given_same k h g = record {
     subject = number_same k.subject g.subject h.subject;
@@ -100,7 +100,7 @@ module _ (terms later : List Term) where
       let ts = triples_same ks gs.1 in
       λ i. t i ∷ ts i
 
-  -- keys whose numbers were given are still such keys
+  -- keys whose numbers had terms are still such keys
   pub all_given_same : (ks : List Key) → AllKeys (IsGiven terms) ks → AllKeys (AgreeOn terms later) ks → AllKeys (IsGiven later) ks
   all_given_same [] hs gs = tt
   all_given_same (k ∷ ks) hs gs = (given_same k hs.0 gs.0, all_given_same ks hs.1 gs.1)
@@ -119,54 +119,52 @@ module _ (terms later : List Term) where
     same = ap graph_of (triples_same (keys_at p root) gs);
   }
 
--- what stands in the front of a list
-pub slice_get_front : (xs ys : List Term) (n : ℕ) → n < length xs → slice_get (xs ++ ys) n ≡ slice_get xs n
-slice_get_front [] ys n h = absurd (omega arith)
-slice_get_front (x ∷ xs) ys zero h = refl
-slice_get_front (x ∷ xs) ys (suc n) h = slice_get_front xs ys n (omega arith)
+-- The same where each number that has a term keeps it: of keys whose numbers have terms, both say the same.
+module _ (terms later : Terms) (keep : KeepTerms terms later) where
+  -- a number with a term has the same one later
+  kept_given : (n : ℕ) → HasTerm terms n → term_given later n ≡ term_given terms n
+  kept_given n h = keep n (term_at terms n) (has_number terms n h) ∙ sym (has_number terms n h)
 
--- The same among more terms, for keys whose numbers were given: what stands in the front of a list agrees.
-module _ (terms more : List Term) where
-  -- the lists agree on such a key
-  pub front_agrees : (k : Key) → IsGiven terms k → AgreeOn terms (terms ++ more) k
-  front_agrees k g = record {
-    subject = slice_get_front terms more k.subject g.subject;
-    predicate = slice_get_front terms more k.predicate g.predicate;
-    object = slice_get_front terms more k.object g.object;
+  -- both agree on such a key
+  pub kept_agrees : (k : Key) → IsGiven terms k → AgreeOn terms later k
+  kept_agrees k g = record {
+    subject = kept_given k.subject g.subject;
+    predicate = kept_given k.predicate g.predicate;
+    object = kept_given k.object g.object;
   }
 
   -- and on all of them
-  pub fronts_agree : (ks : List Key) → AllKeys (IsGiven terms) ks → AllKeys (AgreeOn terms (terms ++ more)) ks
-  fronts_agree = AllKeys-map (IsGiven terms) (AgreeOn terms (terms ++ more)) front_agrees
+  pub all_kept_agree : (ks : List Key) → AllKeys (IsGiven terms) ks → AllKeys (AgreeOn terms later) ks
+  all_kept_agree = AllKeys-map (IsGiven terms) (AgreeOn terms later) kept_agrees
 
   -- they are ordered as they were
-  pub key_cmp_kept : (a b : Key) → IsGiven terms a → IsGiven terms b → key_cmp (terms ++ more) a b ≡ key_cmp terms a b
-  key_cmp_kept a b ga gb = key_cmp_same terms (terms ++ more) a b (front_agrees a ga) (front_agrees b gb)
+  pub key_cmp_kept : (a b : Key) → IsGiven terms a → IsGiven terms b → key_cmp later a b ≡ key_cmp terms a b
+  key_cmp_kept a b ga gb = key_cmp_same terms later a b (kept_agrees a ga) (kept_agrees b gb)
 
   -- one says what it said
-  pub triple_kept : (k : Key) → IsGiven terms k → triple_at (terms ++ more) k ≡ triple_at terms k
-  triple_kept k g = triple_same terms (terms ++ more) k (front_agrees k g)
+  pub triple_kept : (k : Key) → IsGiven terms k → triple_at later k ≡ triple_at terms k
+  triple_kept k g = triple_same terms later k (kept_agrees k g)
 
-  -- its numbers are given
-  pub given_kept : (k : Key) → IsGiven terms k → IsGiven (terms ++ more) k
-  given_kept k g = given_same terms (terms ++ more) k g (front_agrees k g)
+  -- its numbers have terms
+  pub given_kept : (k : Key) → IsGiven terms k → IsGiven later k
+  given_kept k g = given_same terms later k g (kept_agrees k g)
 
   -- keys that rose still rise
-  pub rising_kept : (ks : List Key) → AllKeys (IsGiven terms) ks → IsRising (key_cmp terms) ks → IsRising (key_cmp (terms ++ more)) ks
-  rising_kept ks gs h = rising_same terms (terms ++ more) ks (fronts_agree ks gs) h
+  pub rising_kept : (ks : List Key) → AllKeys (IsGiven terms) ks → IsRising (key_cmp terms) ks → IsRising (key_cmp later) ks
+  rising_kept ks gs h = rising_same terms later ks (all_kept_agree ks gs) h
 
   -- keys say what they said
-  pub triples_kept : (ks : List Key) → AllKeys (IsGiven terms) ks → map (triple_at (terms ++ more)) ks ≡ map (triple_at terms) ks
-  triples_kept ks gs = triples_same terms (terms ++ more) ks (fronts_agree ks gs)
+  pub triples_kept : (ks : List Key) → AllKeys (IsGiven terms) ks → map (triple_at later) ks ≡ map (triple_at terms) ks
+  triples_kept ks gs = triples_same terms later ks (all_kept_agree ks gs)
 
-  -- their numbers are given
-  pub all_given_kept : (ks : List Key) → AllKeys (IsGiven terms) ks → AllKeys (IsGiven (terms ++ more)) ks
-  all_given_kept ks gs = all_given_same terms (terms ++ more) ks gs (fronts_agree ks gs)
+  -- their numbers have terms
+  pub all_given_kept : (ks : List Key) → AllKeys (IsGiven terms) ks → AllKeys (IsGiven later) ks
+  all_given_kept ks gs = all_given_same terms later ks gs (all_kept_agree ks gs)
 
   -- a set of them is still one
-  pub set_kept : (p : Nodes) (root : Option ℕ) → IsSetAt (key_cmp terms) p root → AllKeys (IsGiven terms) (keys_at p root) → IsSetAt (key_cmp (terms ++ more)) p root
-  set_kept p root h gs = set_same terms (terms ++ more) p root h (fronts_agree (keys_at p root) gs)
+  pub set_kept : (p : Nodes) (root : Option ℕ) → IsSetAt (key_cmp terms) p root → AllKeys (IsGiven terms) (keys_at p root) → IsSetAt (key_cmp later) p root
+  set_kept p root h gs = set_same terms later p root h (all_kept_agree (keys_at p root) gs)
 
   -- a root stands for the same graph
-  pub graph_kept : (p : Nodes) (root : Option ℕ) → IsGraphAt terms p root → IsKept terms more p root
-  graph_kept p root h = graph_same terms (terms ++ more) p root h (fronts_agree (keys_at p root) h.given)
+  pub graph_kept : (p : Nodes) (root : Option ℕ) → IsGraphAt terms p root → IsKeptAmong terms later p root
+  graph_kept p root h = graph_same terms later p root h (all_kept_agree (keys_at p root) h.given)

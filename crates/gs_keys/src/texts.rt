@@ -8,13 +8,13 @@ use gs_tree::KeyOrder;
 use std::cmp::Ordering;
 
 /// Keys in the order of their triples' lines: by the texts of their terms in a dictionary. A number
-/// that was not given has no text, and stands before all that were.
+/// without a term has no text, and stands before all that have one.
 #[derive(Clone, Copy)]
 pub struct ByText<'a> {
     dict: &'a Dict,
 }
 
-/// The text of a number, which is empty where the number was not given.
+/// The text of a number, which is empty where it has no term.
 fn text_of(dict: &Dict, number: u32) -> &[u8]
     ensures { result.now ≡ text_at dict.now.terms number }
 {

@@ -1,4 +1,3 @@
-use Rattle.std.proofs.Common.{◌≡◌, ◌<◌, length}
 use Rattle.std.proofs.lemmas.Result.{on_ok_weaker}
 use Rattle.gs_dict.proofs.BuilderLemmas.{number_within, line_gathered}
 use Rattle.gs_dict.proofs.builders.TermLinesBuilder.push.Goals as goal
