@@ -3,7 +3,6 @@ use Rattle.std.proofs.Common.{◌≡◌, ℕ, ◌+◌, ◌≤◌, List, [], ◌�
 use Rattle.std.proofs.lemmas.List.{get_or-map, length-map}
 use Rattle.std.proofs.lemmas.List.Elements.{All-tail}
 use Rattle.std.specs.List.{All}
-use Rattle.gs_model.specs.Terms.{Term}
 use Rattle.gs_term.specs.declared.names.Target.{Target}
 use Rattle.gs_pool.specs.Pool.{Nodes}
 use Rattle.gs_tree.specs.Tree.{Tree, root_of, occurrences, Stands, tree_at}
@@ -11,7 +10,7 @@ use Rattle.gs_tree.specs.Steps.{plain_count}
 use Rattle.gs_tree.specs.Reading.{IsReadable, IsReadableAt}
 use Rattle.gs_tree.specs.Sets.{IsSet, IsSetAt}
 use Rattle.gs_tree.proofs.TreeLemmas.{tree_at-is, plain_count_mark}
-use Rattle.gs_keys.specs.Texts.{key_cmp}
+use Rattle.gs_keys.specs.Texts.{Terms, key_cmp}
 use Rattle.gs_catalogue.specs.declared.versions.GraphVersion.{GraphVersion}
 use Rattle.gs_catalogue.specs.Catalogues.{GraphVersions}
 use Rattle.gs_versions.specs.Pins.{Pins}
@@ -47,15 +46,15 @@ module _ (q : Nodes) (v : Pins) (gs us : List Tree) (rs : List (List Tree)) (ds 
   }
 
 -- a keyed tree that is plain is a set
-set_at : (terms : List Term) (q : Nodes) (t : Tree) → IsPlainTree q t → IsKeyed terms t → IsSetAt (key_cmp terms) q (root_of t)
+set_at : (terms : Terms) (q : Nodes) (t : Tree) → IsPlainTree q t → IsKeyed terms t → IsSetAt (key_cmp terms) q (root_of t)
 set_at terms q t is k = subst (λ u. IsSet (key_cmp terms) q (root_of t) u) (sym is.means) (record { root_is = refl; stands = is.stands; balanced = k.balanced; rising = k.rising; apart = is.apart })
 
 -- one that is there can be read
-readable_at : (terms : List Term) (q : Nodes) (t : Tree) → IsMeant q t → IsKeyed terms t → IsReadableAt (key_cmp terms) q (root_of t)
+readable_at : (terms : Terms) (q : Nodes) (t : Tree) → IsMeant q t → IsKeyed terms t → IsReadableAt (key_cmp terms) q (root_of t)
 readable_at terms q t is k = subst (λ u. IsReadable (key_cmp terms) q (root_of t) u) (sym is.means) (record { root_is = refl; stands = is.stands; rising = k.rising })
 
 -- The keyed trees of a ledger are sets.
-pub ledger_has_sets : (terms : List Term) (q : Nodes) (v : Pins) (gs us : List Tree) (rs : List (List Tree)) (ds : List Dead) → IsLedger q v gs us rs ds → HasSets terms q v gs us rs
+pub ledger_has_sets : (terms : Terms) (q : Nodes) (v : Pins) (gs us : List Tree) (rs : List (List Tree)) (ds : List Dead) → IsLedger q v gs us rs ds → HasSets terms q v gs us rs
 ledger_has_sets terms q v gs us rs ds l =
     let kept = ledger_keeps q v gs us rs ds l in
     record {
@@ -65,7 +64,7 @@ ledger_has_sets terms q v gs us rs ds l =
     }
 
 -- versions whose trees are there in another pool too have the same trees in both
-same_in : (terms : List Term) (p q : Nodes) (vs : List GraphVersion) → All (IsVersion terms p) vs → All (λ u. tree_at q (root_of u) ≡ u) (map (version_tree p) vs) → AreSameIn p q vs
+same_in : (terms : Terms) (p q : Nodes) (vs : List GraphVersion) → All (IsVersion terms p) vs → All (λ u. tree_at q (root_of u) ≡ u) (map (version_tree p) vs) → AreSameIn p q vs
 same_in terms p q vs all there = λ k v h.
     let w = get_or vs k v in
     let tree = version_tree p w in
@@ -75,18 +74,18 @@ same_in terms p q vs all there = λ k v h.
     ap (tree_at q) (sym (all k v h).root_is) ∙ means
 
 -- The other versions stay,
-pub others_stay : (terms : List Term) (p q : Nodes) (g : GraphVersions) (t : Target) → All (IsVersion terms p) (all_versions g) → All (λ u. tree_at q (root_of u) ≡ u) (other_trees p g t) → AreSameIn p q (other_versions g t)
+pub others_stay : (terms : Terms) (p q : Nodes) (g : GraphVersions) (t : Target) → All (IsVersion terms p) (all_versions g) → All (λ u. tree_at q (root_of u) ≡ u) (other_trees p g t) → AreSameIn p q (other_versions g t)
 others_stay terms p q g t all there = same_in terms p q (other_versions g t) (all_others (IsVersion terms p) g t all) there
 
 means_all : (q : Nodes) (ts : List Tree) → All (IsPlainTree q) ts → All (λ u. tree_at q (root_of u) ≡ u) ts
 means_all q ts all = λ k t h. (all k t h).means
 
 -- by a ledger too,
-pub others_stay_beside : (terms : List Term) (p q : Nodes) (g : GraphVersions) (t : Target) (v : Pins) (new : Tree) (us : List Tree) (rs : List (List Tree)) (ds : List Dead) → All (IsVersion terms p) (all_versions g) → IsLedger q v (new ∷ other_trees p g t) us rs ds → AreSameIn p q (other_versions g t)
+pub others_stay_beside : (terms : Terms) (p q : Nodes) (g : GraphVersions) (t : Target) (v : Pins) (new : Tree) (us : List Tree) (rs : List (List Tree)) (ds : List Dead) → All (IsVersion terms p) (all_versions g) → IsLedger q v (new ∷ other_trees p g t) us rs ds → AreSameIn p q (other_versions g t)
 others_stay_beside terms p q g t v new us rs ds all l =
     let ts = other_trees p g t in
     others_stay terms p q g t all (means_all q ts (All-tail (IsPlainTree q) new ts (ledger_keeps q v (new ∷ ts) us rs ds l).current))
 
 -- and so do all.
-pub graphs_stay : (terms : List Term) (p q : Nodes) (g : GraphVersions) (v : Pins) (us : List Tree) (rs : List (List Tree)) (ds : List Dead) → All (IsVersion terms p) (all_versions g) → IsLedger q v (graph_trees p g) us rs ds → AreSameIn p q (all_versions g)
+pub graphs_stay : (terms : Terms) (p q : Nodes) (g : GraphVersions) (v : Pins) (us : List Tree) (rs : List (List Tree)) (ds : List Dead) → All (IsVersion terms p) (all_versions g) → IsLedger q v (graph_trees p g) us rs ds → AreSameIn p q (all_versions g)
 graphs_stay terms p q g v us rs ds all l = same_in terms p q (all_versions g) all (means_all q (graph_trees p g) (ledger_keeps q v (graph_trees p g) us rs ds l).current)

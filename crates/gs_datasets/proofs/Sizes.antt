@@ -5,7 +5,6 @@ use Rattle.std.specs.FinMap as fin
 use Rattle.std.proofs.lemmas.List.{length-map, nil_from_length}
 use Rattle.std.proofs.lemmas.List.Elements.{All-head, All-tail, All-cons, All-nil}
 use Rattle.std.proofs.lemmas.List.Sums.{sum_by-cons}
-use Rattle.gs_model.specs.Terms.{Term}
 use Rattle.gs_model.specs.Graphs.{Graph, size_of, triples_of}
 use Rattle.gs_model.specs.Triples.{line_of}
 use Rattle.gs_term.specs.declared.names.Target.{Target}
@@ -14,7 +13,7 @@ use Rattle.gs_term.specs.Names.{name_cmp}
 use Rattle.gs_event.specs.Datasets.{empty_dataset, graph_at, is_there, lines_if, size_at, triples_in, names_in}
 use Rattle.gs_pool.specs.Pool.{Nodes}
 use Rattle.gs_tree.specs.Tree.{keys}
-use Rattle.gs_keys.specs.Texts.{triple_at}
+use Rattle.gs_keys.specs.Texts.{Terms, triple_at}
 use Rattle.gs_keys.proofs.KeyLemmas.{triples_of_keys}
 use Rattle.gs_catalogue.specs.declared.versions.GraphVersion.{GraphVersion}
 use Rattle.gs_catalogue.specs.Catalogues.{GraphVersions, empty_version, no_versions, version_at, name_count, triple_count}
@@ -23,7 +22,7 @@ use Rattle.gs_datasets.specs.Datasets.{IsEmpty}
 use Rattle.gs_datasets.proofs.Values.{entries-with_values, get-with_values, len-with_values, with_values-empty}
 use Rattle.gs_datasets.proofs.Parting.{all_target}
 
-module _ (terms : List Term) (p : Nodes) where
+module _ (terms : Terms) (p : Nodes) where
   -- a target's graph is that of its version
   pub graph_at-is : (g : GraphVersions) (t : Target) → graph_at (dataset_at terms p g) t ≡ option_map (version_graph terms p) (version_at g t)
   graph_at-is g Default = refl

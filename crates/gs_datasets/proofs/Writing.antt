@@ -4,7 +4,6 @@ use Rattle.std.specs.List.{All, cons_option}
 use Rattle.std.specs.FinMap as fin
 use Rattle.std.proofs.lemmas.List.{map-append}
 use Rattle.std.proofs.lemmas.List.Elements.{All-head, All-tail}
-use Rattle.gs_model.specs.Terms.{Term}
 use Rattle.gs_model.specs.Graphs.{Graph}
 use Rattle.gs_term.specs.declared.names.Target.{Target}
 use Rattle.gs_term.specs.declared.names.Target.TheVariants.{Default, Named}
@@ -12,6 +11,7 @@ use Rattle.gs_term.specs.Names.{name_cmp}
 use Rattle.gs_event.specs.Datasets.{Dataset, with_graph, without_graph}
 use Rattle.gs_pool.specs.Pool.{Nodes}
 use Rattle.gs_tree.specs.Tree.{Tree, leaf, root_of, keys}
+use Rattle.gs_keys.specs.Texts.{Terms, KeepTerms}
 use Rattle.gs_catalogue.specs.declared.versions.GraphVersion.{GraphVersion}
 use Rattle.gs_catalogue.specs.Catalogues.{GraphVersions, version_at, with_version, without_name}
 use Rattle.gs_ledger.specs.Changes.{AreSameTrees}
@@ -35,31 +35,31 @@ same_trees p q (v ∷ vs) same =
     let rest = same_trees p q vs (All-tail (λ w. version_tree q w ≡ version_tree p w) v vs same) in
     λ i. first i ∷ rest i
 
--- The terms and the pool that versions go to, where keyed trees outlast the new terms.
-module _ (terms now : List Term) (last : (t : Tree) → IsKeyed terms t → Outlasts terms now t) (p q : Nodes) where
+-- The terms and the pool that versions go to, where keyed trees outlast the change of terms.
+module _ (terms later : Terms) (last : (t : Tree) → IsKeyed terms t → Outlasts terms later t) (p q : Nodes) where
   -- a version whose tree is the same is one
-  version_kept : (v : GraphVersion) → IsVersion terms p v → version_tree q v ≡ version_tree p v → IsVersion now q v
+  version_kept : (v : GraphVersion) → IsVersion terms p v → version_tree q v ≡ version_tree p v → IsVersion later q v
   version_kept v is same = record {
     root_is = ap root_of same ∙ is.root_is;
-    keyed = subst (IsKeyed now) (sym same) (last (version_tree p v) is.keyed).keyed;
+    keyed = subst (IsKeyed later) (sym same) (last (version_tree p v) is.keyed).keyed;
     counted = subst (λ t. v.triples ≡ length (keys t)) (sym same) is.counted;
   }
 
   -- and it has the same graph
-  graph_kept : (v : GraphVersion) → IsVersion terms p v → version_tree q v ≡ version_tree p v → version_graph now q v ≡ version_graph terms p v
-  graph_kept v is same = ap (tree_graph now) same ∙ (last (version_tree p v) is.keyed).same
+  graph_kept : (v : GraphVersion) → IsVersion terms p v → version_tree q v ≡ version_tree p v → version_graph later q v ≡ version_graph terms p v
+  graph_kept v is same = ap (tree_graph later) same ∙ (last (version_tree p v) is.keyed).same
 
   -- such versions are versions
-  pub versions_kept : (vs : List GraphVersion) → All (IsVersion terms p) vs → AreSameIn p q vs → All (IsVersion now q) vs
+  pub versions_kept : (vs : List GraphVersion) → All (IsVersion terms p) vs → AreSameIn p q vs → All (IsVersion later q) vs
   versions_kept vs all same = λ k v h. version_kept _ (all k v h) (same k v h)
 
   -- so has a map of such versions
-  values_kept : (m : fin.FinMap name_cmp GraphVersion) → All (IsVersion terms p) (fin.values m) → AreSameIn p q (fin.values m) → with_values (version_graph now q) m ≡ with_values (version_graph terms p) m
-  values_kept m all same = with_values_agree (version_graph now q) (version_graph terms p) m (λ k v h. graph_kept _ (all k v h) (same k v h))
+  values_kept : (m : fin.FinMap name_cmp GraphVersion) → All (IsVersion terms p) (fin.values m) → AreSameIn p q (fin.values m) → with_values (version_graph later q) m ≡ with_values (version_graph terms p) m
+  values_kept m all same = with_values_agree (version_graph later q) (version_graph terms p) m (λ k v h. graph_kept _ (all k v h) (same k v h))
 
   -- and the default graph of one
   module _ (u : GraphVersion) (vs : List GraphVersion) (all : All (IsVersion terms p) (u ∷ vs)) (same : AreSameIn p q (u ∷ vs)) where
-    first_kept : version_graph now q u ≡ version_graph terms p u
+    first_kept : version_graph later q u ≡ version_graph terms p u
     first_kept = graph_kept u (All-head (IsVersion terms p) u vs all) (All-head (λ v. version_tree q v ≡ version_tree p v) u vs same)
 
     rest_versions : All (IsVersion terms p) vs
@@ -69,13 +69,13 @@ module _ (terms now : List Term) (last : (t : Tree) → IsKeyed terms t → Outl
     rest_same = All-tail (λ v. version_tree q v ≡ version_tree p v) u vs same
 
   -- nothing changes
-  pub dataset_kept : (g : GraphVersions) → All (IsVersion terms p) (all_versions g) → AreSameIn p q (all_versions g) → dataset_at now q g ≡ dataset_at terms p g
+  pub dataset_kept : (g : GraphVersions) → All (IsVersion terms p) (all_versions g) → AreSameIn p q (all_versions g) → dataset_at later q g ≡ dataset_at terms p g
   dataset_kept g all same =
       let vs = fin.values g.named in
       same_dataset _ _ _ _ (first_kept g.unnamed vs all same) (values_kept g.named (rest_versions g.unnamed vs all same) (rest_same g.unnamed vs all same))
 
   -- a name's graph is taken out
-  pub dataset_without : (g : GraphVersions) (n : List ℕ) → All (IsVersion terms p) (other_versions g (Named n)) → AreSameIn p q (other_versions g (Named n)) → dataset_at now q (without_name g n) ≡ without_graph (dataset_at terms p g) (Named n)
+  pub dataset_without : (g : GraphVersions) (n : List ℕ) → All (IsVersion terms p) (other_versions g (Named n)) → AreSameIn p q (other_versions g (Named n)) → dataset_at later q (without_name g n) ≡ without_graph (dataset_at terms p g) (Named n)
   dataset_without g n all same =
       let m = fin.remove g.named n in
       let vs = fin.values m in
@@ -83,10 +83,10 @@ module _ (terms now : List Term) (last : (t : Tree) → IsKeyed terms t → Outl
       (values_kept m (rest_versions g.unnamed vs all same) (rest_same g.unnamed vs all same) ∙ with_values-remove (version_graph terms p) g.named n)
 
   -- a target's graph is another
-  pub dataset_with : (g : GraphVersions) (t : Target) (v : GraphVersion) → All (IsVersion terms p) (other_versions g t) → AreSameIn p q (other_versions g t) → dataset_at now q (with_version g t v) ≡ with_graph (dataset_at terms p g) t (version_graph now q v)
+  pub dataset_with : (g : GraphVersions) (t : Target) (v : GraphVersion) → All (IsVersion terms p) (other_versions g t) → AreSameIn p q (other_versions g t) → dataset_at later q (with_version g t v) ≡ with_graph (dataset_at terms p g) t (version_graph later q v)
   dataset_with g Default v all same = same_dataset _ _ _ _ refl (values_kept g.named all same)
   dataset_with g (Named n) v all same =
-      let new = version_graph now q in
+      let new = version_graph later q in
       let old = version_graph terms p in
       let m = fin.remove g.named n in
       let vs = fin.values m in
@@ -110,19 +110,18 @@ trees_with p q g t v same =
     (subst (AreSameTrees (tree v ∷ (map tree parts.before ++ map tree parts.after))) (sym whole) (tree_back (tree v) (map tree parts.before) (map tree parts.after)))
 
 -- A version is set for a target.
-pub one_is_set : (terms more : List Term) (p q : Nodes) (g : GraphVersions) (t : Target) (v : GraphVersion) → All (IsVersion terms p) (all_versions g) → AreSameIn p q (other_versions g t) → IsVersion (terms ++ more) q v → SetsOne terms more p q g t v
-one_is_set terms more p q g t v all same is =
-    let now = terms ++ more in
-    let last = keys_outlast terms more in
+pub one_is_set : (terms later : Terms) → KeepTerms terms later → (p q : Nodes) (g : GraphVersions) (t : Target) (v : GraphVersion) → All (IsVersion terms p) (all_versions g) → AreSameIn p q (other_versions g t) → IsVersion later q v → SetsOne terms later p q g t v
+one_is_set terms later keep p q g t v all same is =
+    let last = keys_outlast terms later keep in
     let others = all_others (IsVersion terms p) g t all in
     record {
-      versions = all_with (IsVersion now q) g t v is (versions_kept terms now last p q (other_versions g t) others same);
-      dataset = dataset_with terms now last p q g t v others same;
+      versions = all_with (IsVersion later q) g t v is (versions_kept terms later last p q (other_versions g t) others same);
+      dataset = dataset_with terms later last p q g t v others same;
       trees = trees_with p q g t v same;
     }
 
 -- A name is taken out.
-pub name_is_taken : (terms : List Term) (p q : Nodes) (g : GraphVersions) (n : List ℕ) → All (IsVersion terms p) (all_versions g) → AreSameIn p q (other_versions g (Named n)) → TakesName terms p q g n
+pub name_is_taken : (terms : Terms) (p q : Nodes) (g : GraphVersions) (n : List ℕ) → All (IsVersion terms p) (all_versions g) → AreSameIn p q (other_versions g (Named n)) → TakesName terms p q g n
 name_is_taken terms p q g n all same =
     let last = keys_last terms in
     let others = all_others (IsVersion terms p) g (Named n) all in
@@ -133,13 +132,12 @@ name_is_taken terms p q g n all same =
     }
 
 -- Nothing changes.
-pub all_stay : (terms more : List Term) (p q : Nodes) (g : GraphVersions) → All (IsVersion terms p) (all_versions g) → AreSameIn p q (all_versions g) → KeepsDataset terms more p q g
-all_stay terms more p q g all same =
-    let now = terms ++ more in
-    let last = keys_outlast terms more in
+pub all_stay : (terms later : Terms) → KeepTerms terms later → (p q : Nodes) (g : GraphVersions) → All (IsVersion terms p) (all_versions g) → AreSameIn p q (all_versions g) → KeepsDataset terms later p q g
+all_stay terms later keep p q g all same =
+    let last = keys_outlast terms later keep in
     record {
-      versions = versions_kept terms now last p q (all_versions g) all same;
-      dataset = dataset_kept terms now last p q g all same;
+      versions = versions_kept terms later last p q (all_versions g) all same;
+      dataset = dataset_kept terms later last p q g all same;
       trees = same_trees p q (all_versions g) same;
     }
 

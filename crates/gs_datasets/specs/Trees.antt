@@ -1,14 +1,13 @@
--- The trees of a ledger, of a list by place, and among more terms: the statements of laws.
-use Rattle.std.specs.Prelude.{◌≡◌, ℕ, ◌<◌, ◌≤◌, List, [], ◌∷◌, ◌++◌, length, Some, None, slice_index_or, slice_set}
+-- The trees of a ledger, of a list by place, and among later terms: the statements of laws.
+use Rattle.std.specs.Prelude.{◌≡◌, ℕ, ◌<◌, ◌≤◌, List, [], ◌∷◌, length, Some, None, slice_index_or, slice_set}
 use Rattle.std.specs.List.{All}
-use Rattle.gs_model.specs.Terms.{Term}
 use Rattle.gs_term.specs.declared.names.Target.{Target}
 use Rattle.gs_pool.specs.Pool.{Nodes}
 use Rattle.gs_tree.specs.Tree.{Tree, leaf, root_of, occurrences, Stands, tree_at}
 use Rattle.gs_tree.specs.Steps.{plain_count}
 use Rattle.gs_tree.specs.Reading.{IsReadableAt}
 use Rattle.gs_tree.specs.Sets.{IsSetAt}
-use Rattle.gs_keys.specs.Texts.{key_cmp}
+use Rattle.gs_keys.specs.Texts.{Terms, KeepTerms, key_cmp}
 use Rattle.gs_catalogue.specs.Catalogues.{GraphVersions}
 use Rattle.gs_versions.specs.Pins.{Pins}
 use Rattle.gs_ledger.specs.Entries.{Dead}
@@ -34,7 +33,7 @@ pub record KeepsTrees (q : Nodes) (v : Pins) (graphs uploads : List Tree) (reads
   pub read : (s w : ℕ) → slice_index_or v.seats s None ≡ Some w → All (IsMeant q) (slice_index_or reads s [])
 
 -- where these trees are keyed, the root of a graph's or an upload's means a set that can be changed, and that of each that a seat reads one that can be read
-pub record HasSets (terms : List Term) (q : Nodes) (v : Pins) (graphs uploads : List Tree) (reads : List (List Tree)) : Type 0 where
+pub record HasSets (terms : Terms) (q : Nodes) (v : Pins) (graphs uploads : List Tree) (reads : List (List Tree)) : Type 0 where
   pub current : All (λ t. IsKeyed terms t → IsSetAt (key_cmp terms) q (root_of t)) graphs
   pub staged : All (λ t. IsKeyed terms t → IsSetAt (key_cmp terms) q (root_of t)) uploads
   pub read : (s w : ℕ) → slice_index_or v.seats s None ≡ Some w
@@ -49,13 +48,13 @@ LedgerKeeps =
 -- and those that are keyed are sets
 abbrev pub LedgerHasSets : Type 0
 LedgerHasSets =
-    (terms : List Term) (q : Nodes) (v : Pins) (graphs uploads : List Tree) (reads : List (List Tree)) (dead : List Dead)
+    (terms : Terms) (q : Nodes) (v : Pins) (graphs uploads : List Tree) (reads : List (List Tree)) (dead : List Dead)
     → IsLedger q v graphs uploads reads dead → HasSets terms q v graphs uploads reads
 
 -- where the roots of the other trees of p mean them in q too, the other versions have the same trees in both
 abbrev pub OthersStay : Type 0
 OthersStay =
-    (terms : List Term) (p q : Nodes) (g : GraphVersions) (t : Target)
+    (terms : Terms) (p q : Nodes) (g : GraphVersions) (t : Target)
     → All (IsVersion terms p) (all_versions g)
     → All (λ u. tree_at q (root_of u) ≡ u) (other_trees p g t)
     → AreSameIn p q (other_versions g t)
@@ -63,7 +62,7 @@ OthersStay =
 -- so it is where the graphs of a ledger of q are any tree and the other trees of p
 abbrev pub OthersStayBeside : Type 0
 OthersStayBeside =
-    (terms : List Term) (p q : Nodes) (g : GraphVersions) (t : Target) (v : Pins) (new : Tree) (uploads : List Tree) (reads : List (List Tree)) (dead : List Dead)
+    (terms : Terms) (p q : Nodes) (g : GraphVersions) (t : Target) (v : Pins) (new : Tree) (uploads : List Tree) (reads : List (List Tree)) (dead : List Dead)
     → All (IsVersion terms p) (all_versions g)
     → IsLedger q v (new ∷ other_trees p g t) uploads reads dead
     → AreSameIn p q (other_versions g t)
@@ -71,7 +70,7 @@ OthersStayBeside =
 -- where the graphs of a ledger of q are the trees of p, all versions have the same trees in both
 abbrev pub GraphsStay : Type 0
 GraphsStay =
-    (terms : List Term) (p q : Nodes) (g : GraphVersions) (v : Pins) (uploads : List Tree) (reads : List (List Tree)) (dead : List Dead)
+    (terms : Terms) (p q : Nodes) (g : GraphVersions) (v : Pins) (uploads : List Tree) (reads : List (List Tree)) (dead : List Dead)
     → All (IsVersion terms p) (all_versions g)
     → IsLedger q v (graph_trees p g) uploads reads dead
     → AreSameIn p q (all_versions g)
@@ -84,11 +83,11 @@ PlaceIsEmptied = (ts : List Tree) (s : ℕ) → AreSameTrees ts (slice_index_or 
 abbrev pub PlaceIsFilled : Type 0
 PlaceIsFilled = (ts : List Tree) (s : ℕ) (new : Tree) → s < length ts → AreSameTrees (new ∷ slice_set ts s leaf) (slice_set ts s new)
 
--- among these terms the tree is keyed, and has the same graph
-pub record Outlasts (terms now : List Term) (t : Tree) : Type 0 where
-  pub keyed : IsKeyed now t
-  pub same : tree_graph now t ≡ tree_graph terms t
+-- among the later terms the tree is keyed, and has the same graph
+pub record Outlasts (terms later : Terms) (t : Tree) : Type 0 where
+  pub keyed : IsKeyed later t
+  pub same : tree_graph later t ≡ tree_graph terms t
 
--- what is keyed stays so among more terms
+-- what is keyed stays so where each number that has a term keeps it
 abbrev pub KeysOutlast : Type 0
-KeysOutlast = (terms more : List Term) (t : Tree) → IsKeyed terms t → Outlasts terms (terms ++ more) t
+KeysOutlast = (terms later : Terms) → KeepTerms terms later → (t : Tree) → IsKeyed terms t → Outlasts terms later t

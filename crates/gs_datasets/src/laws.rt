@@ -15,7 +15,8 @@ pub fn versions_stand_for_a_dataset()
     ensures none { NoVersions }
 {}
 
-/// A write of one target changes its graph alone, however the pool and the terms grew beside it.
+/// A write of one target changes its graph alone, however the pool grew beside it, where each number
+/// that has a term keeps it.
 pub fn writes_change_one_graph()
     ensures set { OneIsSet }
     ensures take { NameIsTaken }
@@ -38,7 +39,7 @@ pub fn trees_go_by_place()
     ensures into { PlaceIsFilled }
 {}
 
-/// A tree of keys whose numbers were given stands for the same graph among more terms.
+/// A tree of keys whose numbers have terms stands for the same graph where each number keeps its term.
 pub fn keyed_trees_outlast_new_terms()
     ensures { KeysOutlast }
 {}

@@ -1,10 +1,9 @@
 -- A piece of the lines of a root, from the keys that were found, and the laws of lines.
-use Rattle.std.proofs.Common.{◌≡◌, ℕ, zero, suc, ◌+◌, ◌-◌, ◌<◌, min, false, nat_le, List, [], ◌∷◌, ◌++◌, map, length, get_or, take, drop, slice_get, Option, Some, None, sym, ap, ◌∙◌, subst, arith}
+use Rattle.std.proofs.Common.{◌≡◌, ℕ, zero, suc, ◌+◌, ◌-◌, ◌<◌, min, false, nat_le, List, [], ◌∷◌, map, length, get_or, take, drop, slice_get, Option, Some, None, sym, ap, ◌∙◌, subst, arith}
 use Rattle.std.specs.List.{concat}
 use Rattle.std.proofs.lemmas.Bool.Decides.{nat_tests}
 use Rattle.std.proofs.lemmas.List.{length-map, take-map, drop-map, take-take, length-take, length-take-le, take-append-drop, get_or-take}
 use Rattle.std.proofs.lemmas.Option.{slice_get-get_or}
-use Rattle.gs_model.specs.Terms.{Term}
 use Rattle.gs_model.specs.Triples.{line_of}
 use Rattle.gs_model.specs.Graphs.{lines_of}
 use Rattle.gs_term.specs.declared.names.Target.TheVariants.{Default}
@@ -16,7 +15,7 @@ use Rattle.gs_tree.specs.Reading.{keys_at, keys_from}
 use Rattle.gs_tree.proofs.FromLemmas.{from_all}
 use Rattle.gs_tree.proofs.KeysAfter.{all_from, left_after, cut_at}
 use Rattle.gs_tree.proofs.Order.{AllKeys-front}
-use Rattle.gs_keys.specs.Texts.{key_cmp, key_total, IsGiven}
+use Rattle.gs_keys.specs.Texts.{Terms, KeepTerms, key_cmp, key_total, IsGiven}
 use Rattle.gs_keys.specs.Roots.{IsGraphAt, graph_of_root}
 use Rattle.gs_keys.proofs.KeyLemmas.{triples_of_keys}
 use Rattle.gs_lines.specs.declared.pieces.Piece.{Piece}
@@ -31,8 +30,8 @@ ends found left count is = grind (arith, nat_tests)
 pub goes_on : (left count : ℕ) → nat_le left count ≡ false → count < left
 goes_on left count e = grind (arith, nat_tests)
 
--- a key of those that were given is a place to read from
-given_at : (terms : List Term) (ks : List Key) (i : ℕ) → AllKeys (IsGiven terms) ks → IsCursor terms (slice_get ks i)
+-- a key of those whose numbers have terms is a place to read from
+given_at : (terms : Terms) (ks : List Key) (i : ℕ) → AllKeys (IsGiven terms) ks → IsCursor terms (slice_get ks i)
 given_at terms [] i h = tt
 given_at terms (k ∷ ks) zero h = h.0
 given_at terms (k ∷ ks) (suc i) h = given_at terms ks i h.1
@@ -47,8 +46,8 @@ last_taken xs n d h =
 pub any_key : Key
 any_key = record { subject = 0; predicate = 0; object = 0 }
 
-module _ (terms : List Term) (p : Nodes) (root : Option ℕ) (graph : IsGraphAt terms p root) where
-  -- the keys from a place on were given
+module _ (terms : Terms) (p : Nodes) (root : Option ℕ) (graph : IsGraphAt terms p root) where
+  -- the numbers of the keys from a place on have terms
   pub left_given : (from : Option Key) → AllKeys (IsGiven terms) (keys_left terms p root from)
   left_given from = all_from (key_cmp terms) (IsGiven terms) from (keys_at p root) graph.given
 
@@ -61,7 +60,7 @@ module _ (terms : List Term) (p : Nodes) (root : Option ℕ) (graph : IsGraphAt 
   kept_first : (from : Option Key) (count : ℕ) (found kept : List Key) → found ≡ take (count + 1) (keys_left terms p root from) → kept ≡ take count found → kept ≡ take count (keys_left terms p root from)
   kept_first from count found kept found_is kept_is = kept_is ∙ ap (take count) found_is ∙ take-take count (count + 1) (keys_left terms p root from) (omega arith)
 
-  -- so their numbers were given
+  -- so their numbers have terms
   pub kept_given : (from : Option Key) (count : ℕ) (found kept : List Key) → found ≡ take (count + 1) (keys_left terms p root from) → kept ≡ take count found → AllKeys (IsGiven terms) kept
   kept_given from count found kept found_is kept_is = subst (AllKeys (IsGiven terms)) (sym (kept_first from count found kept found_is kept_is)) (taken_given from count)
 
@@ -104,6 +103,6 @@ module _ (terms : List Term) (p : Nodes) (root : Option ℕ) (graph : IsGraphAt 
       ap (map (line_at terms)) (from_all (key_cmp terms) ks) ∙ lines_of_triples terms Default ks ∙ ap (map line_of) (sym (triples_of_keys terms ks graph.set.rising graph.given))
 
 -- a later pool that has the tree has its lines
-pub lines_outlast : (terms more : List Term) (p q : Nodes) (root : Option ℕ) (from : Option Key) → IsGraphAt terms p root → tree_at q root ≡ tree_at p root → IsCursor terms from → lines_from (terms ++ more) q root from ≡ lines_from terms p root from
-lines_outlast terms more p q root from graph same cursor =
-    ap (λ t. map (line_at (terms ++ more)) (keys_from (key_cmp (terms ++ more)) from (keys t))) same ∙ lines_kept terms more from (keys_at p root) cursor graph.given
+pub lines_outlast : (terms later : Terms) → KeepTerms terms later → (p q : Nodes) (root : Option ℕ) (from : Option Key) → IsGraphAt terms p root → tree_at q root ≡ tree_at p root → IsCursor terms from → lines_from later q root from ≡ lines_from terms p root from
+lines_outlast terms later keep p q root from graph same cursor =
+    ap (λ t. map (line_at later) (keys_from (key_cmp later) from (keys t))) same ∙ lines_kept terms later keep from (keys_at p root) cursor graph.given

@@ -8,7 +8,6 @@ use Rattle.std.proofs.lemmas.Cmp.{tied_itself}
 use Rattle.std.proofs.lemmas.List.{take_all}
 use Rattle.std.proofs.lemmas.List.Elements.{filter_agree}
 use Rattle.std.proofs.lemmas.List.Sums.{fold-append}
-use Rattle.gs_model.specs.Terms.{Term}
 use Rattle.gs_model.specs.Triples.{RdfTriple, triple_cmp}
 use Rattle.gs_model.specs.Graphs.{triples_of}
 use Rattle.gs_model.proofs.GraphLemmas.{triple_total}
@@ -22,7 +21,7 @@ use Rattle.gs_pool.specs.Pool.{Nodes}
 use Rattle.gs_tree.specs.Keys.{AllKeys, IsRising, insert_key, merge_keys}
 use Rattle.gs_tree.specs.Reading.{keys_at, keys_from}
 use Rattle.gs_tree.proofs.Order.{below}
-use Rattle.gs_keys.specs.Texts.{triple_at, key_cmp, key_total, IsGiven}
+use Rattle.gs_keys.specs.Texts.{Terms, triple_at, key_cmp, key_total, IsGiven}
 use Rattle.gs_keys.specs.Roots.{graph_of_root, IsGraphAt}
 use Rattle.gs_keys.proofs.KeyLemmas.{key_cmp_is, triples_of_keys}
 use Rattle.gs_joins.specs.declared.sought.Sought.{Sought}
@@ -85,7 +84,7 @@ or_assoc : (a b c : Bool) → ((a || b) || c) ≡ (a || (b || c))
 or_assoc true b c = refl
 or_assoc false b c = refl
 
-module _ (terms : List Term) where
+module _ (terms : Terms) where
   -- a triple is equal to itself
   alike_itself : (y : Key) → eq_by_cmp triple_cmp (triple_at terms y) (triple_at terms y) ≡ true
   alike_itself y = ap is_eq (tied_itself triple_total (triple_at terms y))
@@ -166,7 +165,7 @@ only_keys ks (s ∷ ss) b chosen h = at_each (λ k there o. at_key k there o (λ
     at_each f [] there = tt
     at_each f (z ∷ zs) there = all_append (λ x. IsIn x ks) (keys_if (λ c. found_keys ks ss c (chosen ++ z ∷ [])) (bind_key b s z)) _ (f z there.0 (bind_key b s z)) (at_each f zs there.1)
 
-module _ (terms : List Term) (distinct : IsDistinct terms) (p : Nodes) (root : Option ℕ) (graph : IsGraphAt terms p root) where
+module _ (terms : Terms) (distinct : IsDistinct terms) (p : Nodes) (root : Option ℕ) (graph : IsGraphAt terms p root) where
   -- what is found is what the patterns have for instances
   pub found_instances : (ss : List Sought) (ps : List Pattern) → AreGiven terms ss → map (pattern_of terms) ss ≡ ps → merge_keys (key_cmp terms) (found_keys (keys_at p root) ss [] []) [] ≡ instance_keys terms p root ps
   found_instances ss ps given is =
@@ -221,7 +220,7 @@ all_in ks [] f = tt
 all_in ks (x ∷ xs) f = (in_from x ks (f x (contains_head x xs)), all_in ks xs (λ y there. f y (contains_tail x xs y there)))
 
 -- lists with the same keys pass a test of one of their triples alike
-any_alike : (terms : List Term) (t : RdfTriple) (xs ys : List Key) → ((k : Key) → Contains xs k → Contains ys k) → ((k : Key) → Contains ys k → Contains xs k) → is_among (map (triple_at terms) xs) t ≡ is_among (map (triple_at terms) ys) t
+any_alike : (terms : Terms) (t : RdfTriple) (xs ys : List Key) → ((k : Key) → Contains xs k → Contains ys k) → ((k : Key) → Contains ys k → Contains xs k) → is_among (map (triple_at terms) xs) t ≡ is_among (map (triple_at terms) ys) t
 any_alike terms t xs ys f g = by_tests (is_among (map (triple_at terms) xs) t) refl (is_among (map (triple_at terms) ys) t) refl
   where
     over : (us vs : List Key) → ((k : Key) → Contains us k → Contains vs k) → is_among (map (triple_at terms) us) t ≡ true → is_among (map (triple_at terms) vs) t ≡ true
@@ -237,7 +236,7 @@ any_alike terms t xs ys f g = by_tests (is_among (map (triple_at terms) xs) t) r
     by_tests false e false h = e ∙ sym h
 
 -- lists of keys of the root with the same keys make one set
-pub same_found : (terms : List Term) (ks : List Key) → IsRising (key_cmp terms) ks → AllKeys (IsGiven terms) ks → (xs ys : List Key) → ((k : Key) → Contains xs k → Contains ks k)
+pub same_found : (terms : Terms) (ks : List Key) → IsRising (key_cmp terms) ks → AllKeys (IsGiven terms) ks → (xs ys : List Key) → ((k : Key) → Contains xs k → Contains ks k)
     → ((k : Key) → Contains xs k → Contains ys k) → ((k : Key) → Contains ys k → Contains xs k) → merge_keys (key_cmp terms) xs [] ≡ merge_keys (key_cmp terms) ys []
 same_found terms ks rising given xs ys inside f g =
     merged terms ks rising given xs (all_in ks xs inside)
@@ -245,12 +244,12 @@ same_found terms ks rising given xs ys inside f g =
     ∙ sym (merged terms ks rising given ys (all_in ks ys (λ k there. inside k (g k there))))
 
 -- one pattern more is sought
-pub given_more : (terms : List Term) (ss : List Sought) (s : Sought) → AreGiven terms ss → IsGivenSought terms s → AreGiven terms (ss ++ s ∷ [])
+pub given_more : (terms : Terms) (ss : List Sought) (s : Sought) → AreGiven terms ss → IsGivenSought terms s → AreGiven terms (ss ++ s ∷ [])
 given_more terms [] s h g = (g, tt)
 given_more terms (r ∷ ss) s h g = (h.0, given_more terms ss s h.1 g)
 
 -- one of the patterns lacks a number
-pub lacks_at : (terms : List Term) (ps : List Pattern) (i : ℕ) (p : Pattern) → i < length ps → p ≡ get_or ps i p → IsLacking terms p → OneLacks terms ps
+pub lacks_at : (terms : Terms) (ps : List Pattern) (i : ℕ) (p : Pattern) → i < length ps → p ≡ get_or ps i p → IsLacking terms p → OneLacks terms ps
 lacks_at terms [] i p within is lacks = absurd (omega arith)
 lacks_at terms (q ∷ ps) zero p within is lacks = inl (subst (IsLacking terms) is lacks)
 lacks_at terms (q ∷ ps) (suc i) p within is lacks = inr (lacks_at terms ps i p (omega arith) is lacks)

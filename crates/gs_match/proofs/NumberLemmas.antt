@@ -1,11 +1,11 @@
 -- What is found by number is what is found by terms.
-use Rattle.std.proofs.Common.{◌≡◌, ◌<◌, ℕ, Bool, true, false, cond, nat_eq, List, [], ◌∷◌, ◌++◌, map, length, Option, Some, None, refl, sym, ap, ◌∙◌, subst, inl, inr}
+use Rattle.std.proofs.Common.{◌≡◌, ℕ, Bool, true, false, cond, nat_eq, List, [], ◌∷◌, ◌++◌, map, Option, Some, None, refl, sym, ap, ◌∙◌, subst, inl, inr}
 use Rattle.std.specs.List.{flat_map}
 use Rattle.std.specs.Option.{option_map, option_and_then}
 use Rattle.std.specs.Str.{bytes_eq}
 use Rattle.std.proofs.lemmas.List.{map-append}
 use Rattle.std.proofs.lemmas.Slice.Eq.{bytes_eq-Decides}
-use Rattle.gs_model.specs.Terms.{Term, text_of}
+use Rattle.gs_model.specs.Terms.{text_of}
 use Rattle.gs_model.specs.Triples.{RdfTriple, term_eq}
 use Rattle.gs_model.proofs.TextLemmas.{text_of-injective}
 use Rattle.gs_term.specs.declared.patterns.Part.{Part}
@@ -14,10 +14,11 @@ use Rattle.gs_term.specs.declared.patterns.Pattern.{Pattern}
 use Rattle.gs_event.specs.Solutions.{Bindings, term_for, with_term, bind, bind_triple}
 use Rattle.gs_graphs.specs.Solving.{found_if, found_from}
 use Rattle.gs_dict.specs.Numbering.{IsDistinct}
+use Rattle.gs_dict.proofs.NumberLemmas.{has_number}
 use Rattle.gs_pool.specs.declared.nodes.Key.{Key}
 use Rattle.gs_tree.specs.Keys.{AllKeys}
-use Rattle.gs_keys.specs.Texts.{term_at, triple_at, IsGiven}
-use Rattle.gs_keys.proofs.KeyLemmas.{term_read, term_eq_is}
+use Rattle.gs_keys.specs.Texts.{Terms, term_at, triple_at, HasTerm, IsGiven}
+use Rattle.gs_keys.proofs.KeyLemmas.{term_eq_is}
 use Rattle.gs_joins.specs.declared.sought.Item.{Item}
 use Rattle.gs_joins.specs.declared.sought.Item.TheVariants.{Number, Variable}
 use Rattle.gs_joins.specs.declared.sought.Sought.{Sought}
@@ -26,28 +27,28 @@ use Rattle.gs_match.specs.Patterns.{part_of, pattern_of, IsGivenItem, IsGivenSou
 use Rattle.gs_match.specs.Found.{keys_if, found_keys, found_at}
 
 -- bindings with terms in the place of numbers
-abbrev pub lifted : List Term → BoundNumbers → Bindings
+abbrev pub lifted : Terms → BoundNumbers → Bindings
 lifted terms b = map (λ (e : List ℕ × ℕ). (e.0, term_at terms e.1)) b
 
--- each number that is bound was given
-abbrev pub AllBound : List Term → BoundNumbers → Type 0
+-- each number that is bound has a term
+abbrev pub AllBound : Terms → BoundNumbers → Type 0
 AllBound terms [] = Unit {0}
-AllBound terms (e ∷ b) = (e.1 < length terms) × AllBound terms b
+AllBound terms (e ∷ b) = HasTerm terms e.1 × AllBound terms b
 
--- the number that a variable is bound to was given
-bound_given : (terms : List Term) (b : BoundNumbers) (x : List ℕ) (m : ℕ) → AllBound terms b → number_for b x ≡ Some m → m < length terms
+-- the number that a variable is bound to has a term
+bound_given : (terms : Terms) (b : BoundNumbers) (x : List ℕ) (m : ℕ) → AllBound terms b → number_for b x ≡ Some m → HasTerm terms m
 bound_given terms [] x m all e = absurd (cc)
 bound_given terms (p ∷ b) x m all e = by_name (bytes_eq p.0 x) e (bound_given terms b x m all.1)
   where
     some_is : (k l : ℕ) → Some k ≡ Some l → k ≡ l
     some_is k l e = cc
 
-    by_name : (r : Bool) → cond r (Some p.1) (number_for b x) ≡ Some m → (number_for b x ≡ Some m → m < length terms) → m < length terms
-    by_name true e later = subst (λ n. n < length terms) (some_is p.1 m e) all.0
+    by_name : (r : Bool) → cond r (Some p.1) (number_for b x) ≡ Some m → (number_for b x ≡ Some m → HasTerm terms m) → HasTerm terms m
+    by_name true e later = subst (HasTerm terms) (some_is p.1 m e) all.0
     by_name false e later = later e
 
 -- the term that a variable is bound to is that of its number
-term_for_is : (terms : List Term) (b : BoundNumbers) (x : List ℕ) → term_for (lifted terms b) x ≡ option_map (term_at terms) (number_for b x)
+term_for_is : (terms : Terms) (b : BoundNumbers) (x : List ℕ) → term_for (lifted terms b) x ≡ option_map (term_at terms) (number_for b x)
 term_for_is terms [] x = refl
 term_for_is terms (p ∷ b) x = by_name (bytes_eq p.0 x) (term_for_is terms b x)
   where
@@ -56,9 +57,9 @@ term_for_is terms (p ∷ b) x = by_name (bytes_eq p.0 x) (term_for_is terms b x)
     by_name true later = refl
     by_name false later = later
 
-module _ (terms : List Term) (distinct : IsDistinct terms) where
+module _ (terms : Terms) (distinct : IsDistinct terms) where
   -- bindings stay where two numbers are one
-  same_if : (b : BoundNumbers) (m n : ℕ) → m < length terms → n < length terms → cond (term_eq (term_at terms m) (term_at terms n)) (Some (lifted terms b)) None ≡ option_map (lifted terms) (cond (nat_eq m n) (Some b) None)
+  same_if : (b : BoundNumbers) (m n : ℕ) → HasTerm terms m → HasTerm terms n → cond (term_eq (term_at terms m) (term_at terms n)) (Some (lifted terms b)) None ≡ option_map (lifted terms) (cond (nat_eq m n) (Some b) None)
   same_if b m n hm hn = ap (λ r. cond r (Some (lifted terms b)) None) (term_eq_is terms m n distinct hm hn) ∙ by_test (nat_eq m n)
     where
       by_test : (r : Bool) → cond r (Some (lifted terms b)) None ≡ option_map (lifted terms) (cond r (Some b) None)
@@ -66,17 +67,17 @@ module _ (terms : List Term) (distinct : IsDistinct terms) where
       by_test false = refl
 
   -- a variable is bound to a number where it is to its term
-  with_is : (b : BoundNumbers) (x : List ℕ) (n : ℕ) (o : Option ℕ) → ((m : ℕ) → o ≡ Some m → m < length terms) → n < length terms
+  with_is : (b : BoundNumbers) (x : List ℕ) (n : ℕ) (o : Option ℕ) → ((m : ℕ) → o ≡ Some m → HasTerm terms m) → HasTerm terms n
       → with_term (lifted terms b) x (term_at terms n) (option_map (term_at terms) o) ≡ option_map (lifted terms) (bound_to_number b x n o)
   with_is b x n None h hn = refl
   with_is b x n (Some m) h hn = same_if b m n (h m refl) hn
 
   -- a number is bound where its term is
-  bind_is : (b : BoundNumbers) (i : Item) (n : ℕ) → AllBound terms b → IsGivenItem terms i → n < length terms → bind (lifted terms b) (part_of terms i) (term_at terms n) ≡ option_map (lifted terms) (bind_number b i n)
+  bind_is : (b : BoundNumbers) (i : Item) (n : ℕ) → AllBound terms b → IsGivenItem terms i → HasTerm terms n → bind (lifted terms b) (part_of terms i) (term_at terms n) ≡ option_map (lifted terms) (bind_number b i n)
   bind_is b (Number m) n all g hn = same_if b m n g hn
   bind_is b (Variable x) n all g hn = ap (with_term (lifted terms b) x.now (term_at terms n)) (term_for_is terms b x.now) ∙ with_is b x.now n (number_for b x.now) (λ m. bound_given terms b x.now m all) hn
 
-  -- bindings that stay were given
+  -- the numbers of bindings that stay have terms
   kept_if : (b c : BoundNumbers) (r : Bool) → cond r (Some b) None ≡ Some c → AllBound terms b → AllBound terms c
   kept_if b c true e all = subst (AllBound terms) (some_is b c e) all
     where
@@ -84,16 +85,16 @@ module _ (terms : List Term) (distinct : IsDistinct terms) where
       some_is k l e = cc
   kept_if b c false e all = absurd (cc)
 
-  -- so were those with a variable more
-  kept_with : (b c : BoundNumbers) (x : List ℕ) (n : ℕ) (o : Option ℕ) → bound_to_number b x n o ≡ Some c → n < length terms → AllBound terms b → AllBound terms c
+  -- so do those with a variable more
+  kept_with : (b c : BoundNumbers) (x : List ℕ) (n : ℕ) (o : Option ℕ) → bound_to_number b x n o ≡ Some c → HasTerm terms n → AllBound terms b → AllBound terms c
   kept_with b c x n None e h all = subst (AllBound terms) (some_is ((x, n) ∷ b) c e) (h, all)
     where
       some_is : (k l : BoundNumbers) → Some k ≡ Some l → k ≡ l
       some_is k l e = cc
   kept_with b c x n (Some m) e h all = kept_if b c (nat_eq m n) e all
 
-  -- what is bound then was given
-  kept_by : (b c : BoundNumbers) (i : Item) (n : ℕ) → bind_number b i n ≡ Some c → n < length terms → AllBound terms b → AllBound terms c
+  -- the numbers that are bound then have terms
+  kept_by : (b c : BoundNumbers) (i : Item) (n : ℕ) → bind_number b i n ≡ Some c → HasTerm terms n → AllBound terms b → AllBound terms c
   kept_by b c (Number m) n e h all = kept_if b c (nat_eq m n) e all
   kept_by b c (Variable x) n e h all = kept_with b c x.now n (number_for b x.now) e h all
 
@@ -130,7 +131,7 @@ module _ (terms : List Term) (distinct : IsDistinct terms) where
           ∙ by_predicate c all_c (bind_number c s.predicate k.predicate) refl (bind_is c s.predicate k.predicate all_c g.predicate gk.predicate)
           ∙ sym (ap (λ o. option_map (lifted terms) (option_and_then predicate_then o)) e)
 
-  -- what is bound then was given
+  -- the numbers that are bound then have terms
   pub kept_key : (b c : BoundNumbers) (s : Sought) (k : Key) → bind_key b s k ≡ Some c → IsGiven terms k → AllBound terms b → AllBound terms c
   kept_key b c s k e gk all = by_subject (bind_number b s.subject k.subject) refl e
     where
@@ -170,19 +171,19 @@ module _ (terms : List Term) (distinct : IsDistinct terms) where
             ∙ sym (ap (found_if (again (triple_at terms k))) (key_is b s k all gs.0 g ∙ ap (option_map (lifted terms)) e))
 
 -- a part that is a term without a number stands for no term of a number
-lacking_part : (terms : List Term) (b : Bindings) (p : Part) (n : ℕ) → IsLackingPart terms p → n < length terms → bind b p (term_at terms n) ≡ None
+lacking_part : (terms : Terms) (b : Bindings) (p : Part) (n : ℕ) → IsLackingPart terms p → HasTerm terms n → bind b p (term_at terms n) ≡ None
 lacking_part terms b (TheTerm t) n new h = by_test (term_eq t (term_at terms n)) refl
   where
     by_test : (r : Bool) → term_eq t (term_at terms n) ≡ r → cond (term_eq t (term_at terms n)) (Some b) None ≡ None
     by_test true e = absurd (
         let same : t ≡ term_at terms n = text_of-injective t (term_at terms n) ((bytes_eq-Decides (text_of t) (text_of (term_at terms n))).0 e) in
-        new n (term_read terms n h ∙ ap Some (sym same))
+        new n (has_number terms n h ∙ ap Some (sym same))
         )
     by_test false e = ap (λ r. cond r (Some b) None) e
 lacking_part terms b (TheVariable x) n new h = absurd new
 
 -- so does a pattern with such a part
-lacking : (terms : List Term) (b : Bindings) (p : Pattern) (k : Key) → IsLacking terms p → IsGiven terms k → bind_triple b p (triple_at terms k) ≡ None
+lacking : (terms : Terms) (b : Bindings) (p : Pattern) (k : Key) → IsLacking terms p → IsGiven terms k → bind_triple b p (triple_at terms k) ≡ None
 lacking terms b p k lacks g = elim lacks [
   | inl s ↦ ap (option_and_then predicate_of) (lacking_part terms b p.subject k.subject s g.subject)
   | inr rest ↦ elim rest [
@@ -202,7 +203,7 @@ lacking terms b p k lacks g = elim lacks [
     none_then (Some c) f h = h c
 
 -- where a term of a pattern has no number nothing is found
-pub lacks_all : (terms : List Term) (ks : List Key) → AllKeys (IsGiven terms) ks → (ps : List Pattern) (b : Bindings) (chosen : List RdfTriple) → OneLacks terms ps → found_from (map (triple_at terms) ks) ps b chosen ≡ []
+pub lacks_all : (terms : Terms) (ks : List Key) → AllKeys (IsGiven terms) ks → (ps : List Pattern) (b : Bindings) (chosen : List RdfTriple) → OneLacks terms ps → found_from (map (triple_at terms) ks) ps b chosen ≡ []
 lacks_all terms ks given [] b chosen lacks = absurd lacks
 lacks_all terms ks given (p ∷ ps) b chosen lacks = elim lacks [
   | inl here ↦ none_each (λ t. found_if (λ c. found_from (map (triple_at terms) ks) ps c (chosen ++ t ∷ [])) (bind_triple b p t)) (λ k g. ap (found_if (λ c. found_from (map (triple_at terms) ks) ps c (chosen ++ triple_at terms k ∷ []))) (lacking terms b p k here g)) ks given

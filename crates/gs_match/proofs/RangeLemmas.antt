@@ -1,15 +1,15 @@
 -- A range is a run of keys: what is between two of its keys is in it.
-use Rattle.std.proofs.Common.{◌≡◌, ◌≢◌, ◌<◌, ◌≤◌, ℕ, Bool, true, false, ◌||◌, ◌&&◌, nat_eq, List, length, refl, sym, ap, ◌∙◌, arith}
+use Rattle.std.proofs.Common.{◌≡◌, ◌≢◌, ◌≤◌, ℕ, Bool, true, false, ◌||◌, ◌&&◌, nat_eq, length, None, refl, sym, ap, ◌∙◌, subst, arith}
 use Rattle.std.specs.Ordering.{ordering_then, ordering_reverse}
 use Rattle.std.specs.declared.cmp.Ordering.{Ordering}
 use Rattle.std.specs.declared.cmp.Ordering.TheVariants.{Less, Equal, Greater}
 use Rattle.std.proofs.lemmas.Bool.{and_parts}
 use Rattle.std.proofs.lemmas.Bool.Decides.{nat_tests}
 use Rattle.std.proofs.lemmas.Cmp.{tied_itself, nat_list_cmp_total}
-use Rattle.gs_model.specs.Terms.{Term}
+use Rattle.std.proofs.lemmas.List.{get_or_past}
 use Rattle.gs_dict.specs.Numbering.{IsDistinct}
 use Rattle.gs_pool.specs.declared.nodes.Key.{Key}
-use Rattle.gs_keys.specs.Texts.{text_at, number_cmp, key_cmp, IsGiven}
+use Rattle.gs_keys.specs.Texts.{Terms, text_at, number_cmp, key_cmp, HasTerm, IsGiven}
 use Rattle.gs_keys.proofs.KeyLemmas.{no_text_first, tied_numbers}
 use Rattle.gs_joins.specs.Numbers.{no_number}
 use Rattle.gs_match.specs.Ranges.{is_at, key_in_range, IsRange}
@@ -62,10 +62,10 @@ known_or_not m P any own = by_test (nat_eq m no_number) refl
     by_test true e = any (let is : m ≡ no_number = grind (arith, nat_tests) in is)
     by_test false e = own (λ is. absurd (grind (arith, nat_tests)))
 
-module _ (terms : List Term) (distinct : IsDistinct terms) (few : length terms ≤ no_number) where
+module _ (terms : Terms) (distinct : IsDistinct terms) (few : length terms ≤ no_number) where
   -- a number that no term has comes first
-  first : (m n : ℕ) → m ≡ no_number → n < length terms → number_cmp terms m n ≡ Less
-  first m n e h = no_text_first terms m n (omega arith) h
+  first : (m n : ℕ) → m ≡ no_number → HasTerm terms n → number_cmp terms m n ≡ Less
+  first m n e h = no_text_first terms m n (get_or_past terms m None (omega arith)) h
 
   -- a number compares as equal to itself
   same_tied : (m n : ℕ) → m ≡ n → number_cmp terms m n ≡ Equal
@@ -102,12 +102,12 @@ module _ (terms : List Term) (distinct : IsDistinct terms) (few : length terms �
       by_answer Greater e back = absurd (h (ap (λ o. ordering_then o u) e))
 
   -- at a place that is known, what is between has its number, and the next place decides
-  level : (m n l : ℕ) (u v : Ordering) → m ≢ no_number → n < length terms → l < length terms → is_at m l ≡ true
+  level : (m n l : ℕ) (u v : Ordering) → m ≢ no_number → HasTerm terms n → HasTerm terms l → is_at m l ≡ true
       → ordering_then (number_cmp terms m n) u ≢ Greater → ordering_then (number_cmp terms n l) v ≡ Less → (is_at m n ≡ true) × (u ≢ Greater) × (v ≡ Less)
   level m n l u v ne hn hl at h k =
       let is : m ≡ l = own_at m l ne at in
       let s = squeezed m n u v h (ap (λ x. ordering_then (number_cmp terms n x) v) is ∙ k) in
-      (at_own m n (tied_numbers terms m n distinct (omega arith) hn s.0), s.1, s.2)
+      (at_own m n (tied_numbers terms m n distinct (subst (HasTerm terms) (sym is) hl) hn s.0), s.1, s.2)
 
   -- what is between a range and one of its keys is in the range
   pub between : (r k c : Key) → IsRange r → IsGiven terms k → IsGiven terms c → key_cmp terms r k ≢ Greater → key_cmp terms k c ≡ Less → key_in_range r c ≡ true → key_in_range r k ≡ true

@@ -6,10 +6,10 @@ use Rattle.std.proofs.lemmas.List.{map-append, take_more, take_all}
 use Rattle.std.proofs.lemmas.List.Elements.{All-nil, All-cons, All-head, All-tail, All-push, All-contains, Contains-append_left, Contains-append_right, Contains-append_cases, Contains-push, Contains-push_cases}
 use Rattle.std.proofs.lemmas.List.Sorted.{IsPermutation-refl, IsPermutation-sym, IsPermutation-trans, IsPermutation-append_left, IsPermutation-map, All-permutation, Contains-permutation}
 use Rattle.std.proofs.lemmas.Option.{slice_get_cases, get_or_from_slice_get}
-use Rattle.gs_model.specs.Terms.{Term}
+use Rattle.gs_dict.proofs.NumberLemmas.{has_below}
 use Rattle.gs_pool.specs.declared.nodes.Key.{Key}
 use Rattle.gs_tree.specs.Keys.{AllKeys, IsRising, merge_keys}
-use Rattle.gs_keys.specs.Texts.{key_cmp, IsGiven}
+use Rattle.gs_keys.specs.Texts.{Terms, key_cmp, IsGiven}
 use Rattle.gs_joins.specs.declared.sought.Sought.{Sought}
 use Rattle.gs_joins.specs.declared.lots.Lot.{Lot}
 use Rattle.gs_joins.specs.Numbers.{no_number, BoundNumbers, bind_key}
@@ -67,14 +67,14 @@ all_at P (z ∷ ks) k all there = elim (contains_cases z ks k there) [
 ]
 
 -- numbers of terms are small
-pub small_all : (terms : List Term) (ks xs : List Key) → ((k : Key) → Contains xs k → Contains ks k) → AllKeys (IsGiven terms) ks → length terms ≤ no_number → All IsSmall xs
+pub small_all : (terms : Terms) (ks xs : List Key) → ((k : Key) → Contains xs k → Contains ks k) → AllKeys (IsGiven terms) ks → length terms ≤ no_number → All IsSmall xs
 small_all terms ks xs sound given few = all_by IsSmall xs (λ k there. small k (all_at (IsGiven terms) ks k given (sound k there)))
   where
     small : (k : Key) → IsGiven terms k → IsSmall k
     small k g = record {
-      subject = let h : k.subject < length terms = g.subject in omega arith;
-      predicate = let h : k.predicate < length terms = g.predicate in omega arith;
-      object = let h : k.object < length terms = g.object in omega arith;
+      subject = let h : k.subject < length terms = has_below terms k.subject g.subject in omega arith;
+      predicate = let h : k.predicate < length terms = has_below terms k.predicate g.predicate in omega arith;
+      object = let h : k.object < length terms = has_below terms k.object g.object in omega arith;
     }
 
 -- what holds of all holds of the first ones
@@ -121,7 +121,7 @@ lots_arranged ks ss zs ls same are = record {
 }
 
 -- what is found of the first lists
-pub record Gathered (terms : List Term) (ls some : List Lot) (f : Found) : Type 0 where
+pub record Gathered (terms : Terms) (ls some : List Lot) (f : Found) : Type 0 where
   pub set : IsFound terms f
   pub done : List Key
   pub keys_are : found_in f ≡ merge_keys (key_cmp terms) done []
@@ -129,7 +129,7 @@ pub record Gathered (terms : List Term) (ls some : List Lot) (f : Found) : Type 
   pub complete : (v : Values) (k : Key) → Solves v ls → Contains (map (key_of v) (sought_of some)) k → Contains done k
 
 -- nothing yet
-pub gathered_none : (terms : List Term) (ls : List Lot) (f : Found) → IsFound terms f → found_in f ≡ [] → Gathered terms ls [] f
+pub gathered_none : (terms : Terms) (ls : List Lot) (f : Found) → IsFound terms f → found_in f ≡ [] → Gathered terms ls [] f
 gathered_none terms ls f set none = record {
   set = set;
   done = [];
@@ -139,7 +139,7 @@ gathered_none terms ls f set none = record {
 }
 
 -- of one list more
-pub gathered_more : (terms : List Term) (ls some : List Lot) (l : Lot) (f g : Found) (kept : List Key) → Gathered terms ls some f → KeepsAllKeys ls l.sought kept → GainsKeys terms f g kept → Gathered terms ls (some ++ l ∷ []) g
+pub gathered_more : (terms : Terms) (ls some : List Lot) (l : Lot) (f g : Found) (kept : List Key) → Gathered terms ls some f → KeepsAllKeys ls l.sought kept → GainsKeys terms f g kept → Gathered terms ls (some ++ l ∷ []) g
 gathered_more terms ls some l f g kept old keeps gains = record {
   set = gains.set;
   done = old.done ++ kept;
@@ -158,7 +158,7 @@ gathered_more terms ls some l f g kept old keeps gains = record {
     split v = ap (map (key_of v)) (map-append (λ (z : Lot). z.sought) some (l ∷ [])) ∙ map-append (key_of v) (sought_of some) (l.sought ∷ [])
 
 -- the same of the list of a number
-pub gathered_at : (terms : List Term) (ls : List Lot) (i : ℕ) (f g : Found) (kept : List Key) → i < length ls → Gathered terms ls (take i ls) f → KeepsAt ls i kept → GainsKeys terms f g kept → Gathered terms ls (take (i + 1) ls) g
+pub gathered_at : (terms : Terms) (ls : List Lot) (i : ℕ) (f g : Found) (kept : List Key) → i < length ls → Gathered terms ls (take i ls) f → KeepsAt ls i kept → GainsKeys terms f g kept → Gathered terms ls (take (i + 1) ls) g
 gathered_at terms ls i f g kept within old keeps gains = by_list (slice_get ls i) refl keeps
   where
     by_list : (o : Option Lot) → slice_get ls i ≡ o → MatchOption o (Unit {0}) (λ (l : Lot). KeepsAllKeys ls l.sought kept) → Gathered terms ls (take (i + 1) ls) g
@@ -171,13 +171,13 @@ gathered_at terms ls i f g kept within old keeps gains = by_list (slice_get ls i
         subst (λ zs. Gathered terms ls zs g) (sym (take_more ls i l within ∙ ap (λ z. take i ls ++ z ∷ []) is)) (gathered_more terms ls (take i ls) l f g kept old keeps gains)
 
 -- all lists were gone through
-pub collects : (terms : List Term) (ls : List Lot) (i : ℕ) (f : Found) → length ls ≤ i → Gathered terms ls (take i ls) f → Collects terms ls f
+pub collects : (terms : Terms) (ls : List Lot) (i : ℕ) (f : Found) → length ls ≤ i → Gathered terms ls (take i ls) f → Collects terms ls f
 collects terms ls i f all g =
     let h : Gathered terms ls ls f = subst (λ zs. Gathered terms ls zs f) (take_all i ls all) g in
     record { set = h.set; done = h.done; keys_are = h.keys_are; sound = h.sound; complete = h.complete }
 
 -- what is found in lists that stand for the patterns is what the patterns have
-pub solved : (terms : List Term) (ks : List Key) (ss : List Sought) (ls ms : List Lot) (f : Found) → IsRising (key_cmp terms) ks → AllKeys (IsGiven terms) ks → AreLots ks ss ls → Reduces ls ms → Collects terms ms f
+pub solved : (terms : Terms) (ks : List Key) (ss : List Sought) (ls ms : List Lot) (f : Found) → IsRising (key_cmp terms) ks → AllKeys (IsGiven terms) ks → AreLots ks ss ls → Reduces ls ms → Collects terms ms f
     → found_in f ≡ merge_keys (key_cmp terms) (found_keys ks ss [] []) []
 solved terms ks ss ls ms f rising given are reduces collects =
     collects.keys_are ∙ same_found terms ks rising given collects.done (found_keys ks ss [] []) inside forth back

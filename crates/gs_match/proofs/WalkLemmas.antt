@@ -5,14 +5,13 @@ use Rattle.std.specs.declared.cmp.Ordering.{Ordering}
 use Rattle.std.specs.declared.cmp.Ordering.TheVariants.{Less, Equal, Greater}
 use Rattle.std.specs.Cmp.{IsTotalOrder}
 use Rattle.std.proofs.lemmas.Cmp.{tied_itself, alike_right}
-use Rattle.gs_model.specs.Terms.{Term}
 use Rattle.gs_dict.specs.Numbering.{IsDistinct}
 use Rattle.gs_pool.specs.declared.nodes.Key.{Key}
 use Rattle.gs_tree.specs.Keys.{AllKeys, IsRising, HasKey}
 use Rattle.gs_tree.specs.Reading.{is_less, is_past, keys_from, first_key}
 use Rattle.gs_tree.proofs.FromLemmas.{less_is}
 use Rattle.gs_tree.proofs.Order.{AllKeys-map, below}
-use Rattle.gs_keys.specs.Texts.{key_cmp, key_total, IsGiven}
+use Rattle.gs_keys.specs.Texts.{Terms, key_cmp, key_total, IsGiven}
 use Rattle.gs_keys.proofs.KeyLemmas.{tied_keys, tied_given}
 use Rattle.gs_joins.specs.Numbers.{no_number}
 use Rattle.gs_match.specs.Ranges.{key_in_range, IsRange, IsNotBelow, IsQuiet, StartsIn, rest_at}
@@ -107,7 +106,7 @@ module _ (cmp : Key → Key → Ordering) (total : IsTotalOrder cmp) where
         rw high (ap (λ xs. xs ++ flat_map f ks) none ∙ found_from_key f r ks rising.1 later exact.1 quiet.1)
   ]
 
-module _ (terms : List Term) (distinct : IsDistinct terms) (few : length terms ≤ no_number) (ks : List Key) (rising : IsRising (key_cmp terms) ks) (given : AllKeys (IsGiven terms) ks) (r : Key) (form : IsRange r) where
+module _ (terms : Terms) (distinct : IsDistinct terms) (few : length terms ≤ no_number) (ks : List Key) (rising : IsRising (key_cmp terms) ks) (given : AllKeys (IsGiven terms) ks) (r : Key) (form : IsRange r) where
   -- a walk that starts at the first key above a range
   pub starts_above : r.object ≡ no_number → StartsIn terms ks r (first_key (keys_from (key_cmp terms) (Some r) ks))
   starts_above none = record {
@@ -126,7 +125,7 @@ module _ (terms : List Term) (distinct : IsDistinct terms) (few : length terms �
   out_of_one ne k other true e = absurd (other (only_key r k form ne e))
   out_of_one ne k other false e = e
 
-  -- a key that is there was given
+  -- the numbers of a key that is there have terms
   given_by : (zs : List Key) → AllKeys (IsGiven terms) zs → HasKey (key_cmp terms) r zs → IsGiven terms r
   given_by [] g has = absurd has
   given_by (z ∷ zs) g has = elim has [

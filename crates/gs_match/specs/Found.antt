@@ -1,12 +1,11 @@
 -- The keys that are found for patterns by number. No public clause cites this module.
 use Rattle.std.specs.Prelude.{◌≡◌, List, [], ◌∷◌, ◌++◌, Option, Some, None}
 use Rattle.std.specs.List.{flat_map}
-use Rattle.gs_model.specs.Terms.{Term}
 use Rattle.gs_pool.specs.declared.nodes.Key.{Key}
 use Rattle.gs_tree.specs.Keys.{merge_keys}
 use Rattle.gs_tree.specs.Reading.{keys_at}
 use Rattle.gs_tree.specs.Sets.{IsSetAt}
-use Rattle.gs_keys.specs.Texts.{key_cmp}
+use Rattle.gs_keys.specs.Texts.{Terms, key_cmp}
 use Rattle.gs_joins.specs.declared.sought.Sought.{Sought}
 use Rattle.gs_joins.specs.Numbers.{BoundNumbers, bind_key}
 use Rattle.gs_match.specs.declared.found.Found.{Found}
@@ -30,10 +29,10 @@ abbrev pub found_in : Found → List Key
 found_in f = keys_at f.pool f.root
 
 -- they are a set in the order of their texts
-abbrev pub IsFound : List Term → Found → Type 0
+abbrev pub IsFound : Terms → Found → Type 0
 IsFound terms f = IsSetAt (key_cmp terms) f.pool f.root
 
 -- some keys more are found
-pub record GainsKeys (terms : List Term) (old new : Found) (more : List Key) : Type 0 where
+pub record GainsKeys (terms : Terms) (old new : Found) (more : List Key) : Type 0 where
   pub set : IsFound terms new
   pub keys_are : found_in new ≡ merge_keys (key_cmp terms) more (found_in old)

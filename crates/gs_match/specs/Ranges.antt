@@ -3,10 +3,9 @@ use Rattle.std.specs.Prelude.{◌≡◌, ◌≢◌, ◌==◌, ◌&&◌, ◌||◌
 use Rattle.std.specs.List.{flat_map}
 use Rattle.std.specs.declared.cmp.Ordering.{Ordering}
 use Rattle.std.specs.declared.cmp.Ordering.TheVariants.{Greater}
-use Rattle.gs_model.specs.Terms.{Term}
 use Rattle.gs_pool.specs.declared.nodes.Key.{Key}
 use Rattle.gs_tree.specs.Reading.{keys_at, keys_from}
-use Rattle.gs_keys.specs.Texts.{key_cmp, IsGiven}
+use Rattle.gs_keys.specs.Texts.{Terms, key_cmp, IsGiven}
 use Rattle.gs_joins.specs.declared.sought.Sought.{Sought}
 use Rattle.gs_joins.specs.Numbers.{no_number, BoundNumbers, bind_key, known_number}
 use Rattle.gs_match.specs.declared.ranges.Keys.{Keys}
@@ -49,11 +48,11 @@ abbrev pub IsNotBelow : (Key → Key → Ordering) → Key → Key → Type 0
 IsNotBelow cmp r k = cmp r k ≢ Greater
 
 -- nothing is found outside the range
-abbrev pub IsQuiet : List Term → Key → (Key → List Key) → Type 0
+abbrev pub IsQuiet : Terms → Key → (Key → List Key) → Type 0
 IsQuiet terms r f = (k : Key) → IsGiven terms k → key_in_range r k ≡ false → f k ≡ []
 
 -- all that is found in a range is found from this key on
-pub record StartsIn (terms : List Term) (ks : List Key) (r : Key) (next : Option Key) : Type 0 where
+pub record StartsIn (terms : Terms) (ks : List Key) (r : Key) (next : Option Key) : Type 0 where
   pub given : (k : Key) → next ≡ Some k → IsGiven terms k
   pub not_below : (k : Key) → next ≡ Some k → IsNotBelow (key_cmp terms) r k
   pub skips : (f : Key → List Key) → IsQuiet terms r f → flat_map f ks ≡ flat_map f (rest_at (key_cmp terms) ks next)

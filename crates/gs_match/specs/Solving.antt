@@ -2,10 +2,9 @@
 use Rattle.std.specs.Prelude.{◌≡◌, List, [], map}
 use Rattle.std.specs.List.{All, Contains}
 use Rattle.std.specs.List.Sorted.{IsPermutation}
-use Rattle.gs_model.specs.Terms.{Term}
 use Rattle.gs_pool.specs.declared.nodes.Key.{Key}
 use Rattle.gs_tree.specs.Keys.{merge_keys}
-use Rattle.gs_keys.specs.Texts.{key_cmp}
+use Rattle.gs_keys.specs.Texts.{Terms, key_cmp}
 use Rattle.gs_joins.specs.declared.sought.Sought.{Sought}
 use Rattle.gs_joins.specs.declared.lots.Lot.{Lot}
 use Rattle.gs_joins.specs.Lots.{IsLot}
@@ -25,7 +24,7 @@ pub record AreLots (ks : List Key) (ss : List Sought) (ls : List Lot) : Type 0 w
   pub back : (v : Values) → Solves v ls → SolvesAll v ks ss
 
 -- the keys that are found are those of all patterns' instances under all values that solve the lists
-pub record Collects (terms : List Term) (ls : List Lot) (f : Found) : Type 0 where
+pub record Collects (terms : Terms) (ls : List Lot) (f : Found) : Type 0 where
   pub set : IsFound terms f
   pub done : List Key
   pub keys_are : found_in f ≡ merge_keys (key_cmp terms) done []

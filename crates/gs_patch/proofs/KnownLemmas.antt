@@ -10,11 +10,11 @@ use Rattle.gs_event.specs.Solutions.{is_among}
 use Rattle.gs_event.proofs.SolutionLemmas.{same_triple}
 use Rattle.gs_dict.specs.declared.numbers.TermId.{TermId}
 use Rattle.gs_dict.specs.Numbering.{LooksUp}
+use Rattle.gs_dict.proofs.NumberLemmas.{has_number}
 use Rattle.gs_triple_lists.specs.declared.lists.TripleNumbers.{TripleNumbers}
 use Rattle.gs_triple_lists.specs.Kept.{term_of_number, triple_of_numbers, triples_of_numbers, IsTripleIn, AreTriplesIn}
 use Rattle.gs_pool.specs.declared.nodes.Key.{Key}
-use Rattle.gs_keys.specs.Texts.{triple_at, IsGiven}
-use Rattle.gs_keys.proofs.KeyLemmas.{term_read}
+use Rattle.gs_keys.specs.Texts.{Terms, triple_at, IsGiven}
 use Rattle.gs_staging.specs.Keys.{IsKeyOf}
 use Rattle.gs_staging.proofs.KeyLemmas.{key_given, key_says, all_append}
 use Rattle.gs_patch.specs.Known.{IsUnknown, IsMissing, IsFound, AreFound, AreKnown}
@@ -28,7 +28,7 @@ among_more : (ts : List RdfTriple) (t u : RdfTriple) → is_among (ts ++ t ∷ [
 among_more ts t u = list_any-append (eq_by_cmp triple_cmp u) ts (t ∷ []) ∙ ap (λ b. is_among ts u || b) (or_false (eq_by_cmp triple_cmp u t))
 
 -- a triple whose terms have numbers, and its key
-known_more : (terms : List Term) (ts : List RdfTriple) (ks : List Key) (t : RdfTriple) (k : Key) → AreKnown terms ts ks → IsKeyOf terms t k → AreKnown terms (ts ++ t ∷ []) (ks ++ k ∷ [])
+known_more : (terms : Terms) (ts : List RdfTriple) (ks : List Key) (t : RdfTriple) (k : Key) → AreKnown terms ts ks → IsKeyOf terms t k → AreKnown terms (ts ++ t ∷ []) (ks ++ k ∷ [])
 known_more terms ts ks t k h one = record {
   given = all_append (IsGiven terms) ks (k ∷ []) h.given (key_given terms t k one, tt);
   among = λ j g.
@@ -41,15 +41,15 @@ known_more terms ts ks t k h one = record {
 }
 
 -- a triple with a term that has no number is the triple of no key
-never : (terms : List Term) (t : RdfTriple) (k : Key) → IsUnknown terms t → IsGiven terms k → triple_at terms k ≡ t → ⊥
+never : (terms : Terms) (t : RdfTriple) (k : Key) → IsUnknown terms t → IsGiven terms k → triple_at terms k ≡ t → ⊥
 never terms t k none g e = elim none [
-  | inl s ↦ s k.subject (term_read terms k.subject g.subject ∙ ap (λ (u : RdfTriple). Some u.subject) e)
-  | inr (inl p) ↦ p k.predicate (term_read terms k.predicate g.predicate ∙ ap (λ (u : RdfTriple). Some u.predicate) e)
-  | inr (inr o) ↦ o k.object (term_read terms k.object g.object ∙ ap (λ (u : RdfTriple). Some u.object) e)
+  | inl s ↦ s k.subject (has_number terms k.subject g.subject ∙ ap (λ (u : RdfTriple). Some u.subject) e)
+  | inr (inl p) ↦ p k.predicate (has_number terms k.predicate g.predicate ∙ ap (λ (u : RdfTriple). Some u.predicate) e)
+  | inr (inr o) ↦ o k.object (has_number terms k.object g.object ∙ ap (λ (u : RdfTriple). Some u.object) e)
 ]
 
 -- so it changes nothing
-unknown_more : (terms : List Term) (ts : List RdfTriple) (ks : List Key) (t : RdfTriple) → AreKnown terms ts ks → IsUnknown terms t → AreKnown terms (ts ++ t ∷ []) ks
+unknown_more : (terms : Terms) (ts : List RdfTriple) (ks : List Key) (t : RdfTriple) → AreKnown terms ts ks → IsUnknown terms t → AreKnown terms (ts ++ t ∷ []) ks
 unknown_more terms ts ks t h none = record {
   given = h.given;
   among = λ j g.
@@ -62,7 +62,7 @@ unknown_more terms ts ks t h none = record {
     apart j g false e = e
 
 -- what was found for three numbers of a list makes a key of their triple
-found_key : (terms us : List Term) (ids : List (Option TermId)) (n : TripleNumbers) (k : Key) → AreFound terms us ids → IsTripleIn us n → IsFound ids n k → IsKeyOf terms (triple_of_numbers us n) k
+found_key : (terms : Terms) (us : List Term) (ids : List (Option TermId)) (n : TripleNumbers) (k : Key) → AreFound terms us ids → IsTripleIn us n → IsFound ids n k → IsKeyOf terms (triple_of_numbers us n) k
 found_key terms us ids n k all known h = record {
   subject = subst (LooksUp terms (term_of_number us n.subject)) h.subject (all.each n.subject known.subject);
   predicate = subst (LooksUp terms (term_of_number us n.predicate)) h.predicate (all.each n.predicate known.predicate);
@@ -70,7 +70,7 @@ found_key terms us ids n k all known h = record {
 }
 
 -- and where nothing was found for one of them, the triple has a term without a number
-missing_term : (terms us : List Term) (ids : List (Option TermId)) (n : TripleNumbers) → AreFound terms us ids → IsTripleIn us n → IsMissing ids n → IsUnknown terms (triple_of_numbers us n)
+missing_term : (terms : Terms) (us : List Term) (ids : List (Option TermId)) (n : TripleNumbers) → AreFound terms us ids → IsTripleIn us n → IsMissing ids n → IsUnknown terms (triple_of_numbers us n)
 missing_term terms us ids n all known h = elim h [
   | inl s ↦ inl (subst (LooksUp terms (term_of_number us n.subject)) s (all.each n.subject known.subject))
   | inr (inl p) ↦ inr (inl (subst (LooksUp terms (term_of_number us n.predicate)) p (all.each n.predicate known.predicate)))
@@ -78,7 +78,7 @@ missing_term terms us ids n all known h = elim h [
 ]
 
 -- the triples of a list are gone through, and what was found stands for its terms
-module _ (terms us : List Term) (ids : List (Option TermId)) (ns : List TripleNumbers) (ts : List RdfTriple) (all : AreFound terms us ids) (known : AreTriplesIn us ns) (are : triples_of_numbers us ns ≡ ts) (i : ℕ) (n : TripleNumbers) (low : i < length ns) (ks : List Key) (h : AreKnown terms (take i ts) ks) where
+module _ (terms : Terms) (us : List Term) (ids : List (Option TermId)) (ns : List TripleNumbers) (ts : List RdfTriple) (all : AreFound terms us ids) (known : AreTriplesIn us ns) (are : triples_of_numbers us ns ≡ ts) (i : ℕ) (n : TripleNumbers) (low : i < length ns) (ks : List Key) (h : AreKnown terms (take i ts) ks) where
   -- one more of them
   next_triple : take i ts ++ triple_of_numbers us (get_or ns i n) ∷ [] ≡ take (i + 1) ts
   next_triple =

@@ -1,7 +1,6 @@
 -- One operation: what it adds and removes, and the instances that go.
 use Rattle.std.proofs.Common.{◌≡◌, ◌⊎◌, inl, inr, ℕ, ◌+◌, ◌-◌, List, map, length, Option, Result, Ok, Err, sym, ap, ◌∙◌, arith}
 use Rattle.std.specs.Result.{IfOk}
-use Rattle.gs_model.specs.Terms.{Term}
 use Rattle.gs_model.specs.Triples.{RdfTriple}
 use Rattle.gs_model.specs.Graphs.{Graph, size_of}
 use Rattle.gs_term.specs.declared.patterns.Pattern.{Pattern}
@@ -20,7 +19,7 @@ use Rattle.gs_changes.specs.declared.removals.Pruned.{Pruned}
 use Rattle.gs_changes.specs.Changes.{ChangesAt}
 use Rattle.gs_changes.specs.Keys.{remove_keys}
 use Rattle.gs_changes.proofs.ChangeLemmas.{unchanged, unites_changes}
-use Rattle.gs_keys.specs.Texts.{triple_at, key_cmp, IsGiven}
+use Rattle.gs_keys.specs.Texts.{Terms, triple_at, key_cmp, IsGiven}
 use Rattle.gs_keys.specs.Roots.{graph_of_root}
 use Rattle.gs_match.specs.Instances.{instance_keys}
 use Rattle.gs_staging.specs.Keys.{Grows, IsRunOfTriples}
@@ -49,24 +48,24 @@ run_goes_in birth d e p q root ts run m grows distinct old is united =
 
 -- keys that are taken out of a staged tree
 pub keys_go_out :
-    (birth : ℕ) (terms : List Term) (p q : Nodes) (root : Option ℕ) (run : List Key) (m : Pruned) → IsStaged terms p root → AllKeys (IsGiven terms) run → ChangesAt (key_cmp terms) birth p q root m.root 0 m.removed
+    (birth : ℕ) (terms : Terms) (p q : Nodes) (root : Option ℕ) (run : List Key) (m : Pruned) → IsStaged terms p root → AllKeys (IsGiven terms) run → ChangesAt (key_cmp terms) birth p q root m.root 0 m.removed
     → keys_at q m.root ≡ remove_keys (key_cmp terms) run (keys_at p root) → LosesTriples birth terms p q root (map (triple_at terms) run) m
 keys_go_out birth terms p q root run m old given changes keys_are =
     let made = without_keys terms p q root m.root run old given changes.set keys_are in
     record { changes = changes; staged = made.0; graph = made.1 }
 
 -- the same graph by another name
-pub becomes_so : (birth : ℕ) (terms : List Term) (p q : Nodes) (root new : Option ℕ) (added removed : ℕ) (g h : Graph) → g ≡ h → BecomesGraph birth terms p q root new added removed g → BecomesGraph birth terms p q root new added removed h
+pub becomes_so : (birth : ℕ) (terms : Terms) (p q : Nodes) (root new : Option ℕ) (added removed : ℕ) (g h : Graph) → g ≡ h → BecomesGraph birth terms p q root new added removed g → BecomesGraph birth terms p q root new added removed h
 becomes_so birth terms p q root new added removed g h e b = record { changes = b.changes; staged = b.staged; graph = b.graph ∙ e }
 
 -- a loss of triples whose loss leaves the same graph
-pub loses_so : {E : Type 0} (r : Result Pruned E) (birth : ℕ) (terms : List Term) (p q : Nodes) (root : Option ℕ) (xs ts : List RdfTriple) → without_triples (graph_of_root terms p root) xs ≡ without_triples (graph_of_root terms p root) ts
+pub loses_so : {E : Type 0} (r : Result Pruned E) (birth : ℕ) (terms : Terms) (p q : Nodes) (root : Option ℕ) (xs ts : List RdfTriple) → without_triples (graph_of_root terms p root) xs ≡ without_triples (graph_of_root terms p root) ts
     → IfOk r (LosesTriples birth terms p q root xs) → IfOk r (LosesTriples birth terms p q root ts)
 loses_so (Ok m) birth terms p q root xs ts e h = becomes_so birth terms p q root m.root 0 m.removed (without_triples (graph_of_root terms p root) xs) (without_triples (graph_of_root terms p root) ts) e h
 loses_so (Err half) birth terms p q root xs ts e h = tt
 
--- the keys of instances were given
-pub instances_given : (terms : List Term) (p : Nodes) (root : Option ℕ) (ps : List Pattern) → IsStaged terms p root → AllKeys (IsGiven terms) (instance_keys terms p root ps)
+-- the numbers of the keys of instances have terms
+pub instances_given : (terms : Terms) (p : Nodes) (root : Option ℕ) (ps : List Pattern) → IsStaged terms p root → AllKeys (IsGiven terms) (instance_keys terms p root ps)
 instances_given terms p root ps old = all_filter (IsGiven terms) (λ k. is_among (instances_of (graph_of_root terms p root) ps) (triple_at terms k)) (keys_at p root) old.given
 
 -- nothing went in or out yet

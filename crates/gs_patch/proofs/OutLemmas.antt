@@ -5,7 +5,6 @@ use Rattle.std.specs.Cmp.{IsTotalOrder}
 use Rattle.std.specs.Ordering.{eq_by_cmp, is_eq, ordering_reverse}
 use Rattle.std.specs.declared.cmp.Ordering.{Ordering}
 use Rattle.std.specs.declared.cmp.Ordering.TheVariants.{Less, Equal, Greater}
-use Rattle.gs_model.specs.Terms.{Term}
 use Rattle.gs_model.specs.Triples.{RdfTriple, triple_cmp}
 use Rattle.gs_model.specs.Graphs.{graph_of}
 use Rattle.gs_model.proofs.GraphLemmas.{triple_total}
@@ -17,7 +16,7 @@ use Rattle.gs_tree.specs.Keys.{AllKeys, IsRising, remove_key, remove_by}
 use Rattle.gs_tree.specs.Reading.{keys_at}
 use Rattle.gs_tree.specs.Sets.{IsSetAt}
 use Rattle.gs_tree.proofs.Order.{AllKeys-map}
-use Rattle.gs_keys.specs.Texts.{triple_at, key_cmp, key_total, IsGiven}
+use Rattle.gs_keys.specs.Texts.{Terms, triple_at, key_cmp, key_total, IsGiven}
 use Rattle.gs_keys.specs.Roots.{graph_of_root}
 use Rattle.gs_keys.proofs.KeyLemmas.{key_cmp_is}
 use Rattle.gs_changes.specs.Keys.{remove_keys}
@@ -104,7 +103,7 @@ turned Less = refl
 turned Equal = refl
 turned Greater = refl
 
-module _ (terms : List Term) where
+module _ (terms : Terms) where
   -- a key is one of some exactly where its triple is among theirs
   one_among : (run : List Key) (y : Key) → AllKeys (IsGiven terms) run → IsGiven terms y → is_one_of (key_cmp terms) (key_total terms) run y ≡ is_among (map (triple_at terms) run) (triple_at terms y)
   one_among [] y gs g = refl

@@ -8,7 +8,7 @@ use Rattle.gs_pool.specs.Pool.{Nodes}
 use Rattle.gs_tree.specs.Tree.{tree_at}
 use Rattle.gs_changes.specs.Changes.{ChangesAt}
 use Rattle.gs_changes.proofs.ChangeLemmas.{unchanged, then}
-use Rattle.gs_keys.specs.Texts.{key_cmp}
+use Rattle.gs_keys.specs.Texts.{Terms, key_cmp}
 use Rattle.gs_keys.specs.Roots.{graph_of_root}
 use Rattle.gs_staging.specs.Keys.{Grows, GivesOnly}
 use Rattle.gs_staging.specs.Staging.{IsStaged}
@@ -20,7 +20,7 @@ use Rattle.gs_patch.specs.Inserted.{IsInsertedBy, IsInserted}
 use Rattle.gs_patch.specs.Operations.{ChangesSome, Operates}
 use Rattle.gs_patch.specs.Patches.{Patches}
 
--- a change of a tree is one by the order of more terms
+-- a change of a tree is one by the order of later terms
 change_grown : (birth : ℕ) (d e : Numbered) (p q : Nodes) (root new : Option ℕ) (added removed : ℕ) → Grows d e → IsStaged d.terms q new → ChangesAt (key_cmp d.terms) birth p q root new added removed → ChangesAt (key_cmp e.terms) birth p q root new added removed
 change_grown birth d e p q root new added removed grows staged c = record {
   set = (staged_grown d e q new grows staged).set;
@@ -109,5 +109,5 @@ abbrev pub LeavesOnly : List Op → List Op → Type 0
 LeavesOnly left ops = (u : Term) → IsInserted left u → IsInserted ops u
 
 -- numbers were given to inserted terms alone, and one more operation gives them to its own
-pub only_more : (a b c : List Term) (ops rest : List Op) (op : Op) → LeavesOnly (op ∷ rest) ops → GivesOnly (IsInserted ops) a b → GivesOnly (IsInsertedBy op) b c → GivesOnly (IsInserted ops) a c
+pub only_more : (a b c : Terms) (ops rest : List Op) (op : Op) → LeavesOnly (op ∷ rest) ops → GivesOnly (IsInserted ops) a b → GivesOnly (IsInsertedBy op) b c → GivesOnly (IsInserted ops) a c
 only_more a b c ops rest op among first second = only_twice a b c first (λ u is. among u (inl is)) second

@@ -9,10 +9,10 @@ use Rattle.gs_triple_lists.specs.declared.lists.TripleNumbers.{TripleNumbers}
 use Rattle.gs_triple_lists.specs.Kept.{term_of_number}
 use Rattle.gs_pool.specs.declared.nodes.Key.{Key}
 use Rattle.gs_tree.specs.Keys.{AllKeys}
-use Rattle.gs_keys.specs.Texts.{triple_at, IsGiven}
+use Rattle.gs_keys.specs.Texts.{Terms, triple_at, IsGiven}
 
 -- a term of the triple has no number
-abbrev pub IsUnknown : List Term → RdfTriple → Type 0
+abbrev pub IsUnknown : Terms → RdfTriple → Type 0
 IsUnknown terms t = IsNew terms t.subject ⊎ IsNew terms t.predicate ⊎ IsNew terms t.object
 
 -- what was found for the term of a place
@@ -20,7 +20,7 @@ abbrev pub found_at : List (Option TermId) → ℕ → Option TermId
 found_at ids n = slice_index_or ids n None
 
 -- for each term of a list stands its number, where it has one
-pub record AreFound (terms us : List Term) (ids : List (Option TermId)) : Type 0 where
+pub record AreFound (terms : Terms) (us : List Term) (ids : List (Option TermId)) : Type 0 where
   pub count : length ids ≡ length us
   pub each : (n : ℕ) → n < length us → LooksUp terms (term_of_number us n) (found_at ids n)
 
@@ -41,6 +41,6 @@ pub record IsFound (ids : List (Option TermId)) (k : TripleNumbers) (key : Key) 
   pub object : found_at ids k.object ≡ Some (record { number = key.object })
 
 -- the triple of a key is among those of these keys exactly where it is among the triples
-pub record AreKnown (terms : List Term) (ts : List RdfTriple) (ks : List Key) : Type 0 where
+pub record AreKnown (terms : Terms) (ts : List RdfTriple) (ks : List Key) : Type 0 where
   pub given : AllKeys (IsGiven terms) ks
   pub among : (k : Key) → IsGiven terms k → is_among (map (triple_at terms) ks) (triple_at terms k) ≡ is_among ts (triple_at terms k)

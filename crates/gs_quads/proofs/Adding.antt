@@ -78,7 +78,7 @@ module _ (s : Source) (most : ℕ) where
     abbrev more : List Key
     more = take (most - length old.keys.items) left
 
-    -- their numbers were given
+    -- their numbers have terms
     more_given : KeysAreGiven s more
     more_given = keys_first (IsGiven s.dict.now.terms) (most - length old.keys.items) left (left_given s.dict.now.terms s.pool.now (root_at s.records.now.records n) graph.graph from)
 
@@ -89,7 +89,7 @@ module _ (s : Source) (most : ℕ) where
           let root : e.version.root ≡ root_at s.records.now.records n = sym (ap (λ (r : Record). (entry_of r).version.root) at) in
           came ∙ (λ i. old.keys.items ++ take (most - had_is i) (keys_left s.dict.now.terms s.pool.now (root i) from))
 
-      -- the numbers of all keys were given
+      -- the numbers of all keys have terms
       given : KeysAreGiven s new.keys.items
       given = subst (KeysAreGiven s) (sym keys_are) (all_both (IsGiven s.dict.now.terms) old.keys.items more found.given more_given)
 

@@ -6,14 +6,13 @@ use Rattle.std.proofs.lemmas.List.{length-map}
 use Rattle.std.proofs.lemmas.List.Concat.{length-flat_map}
 use Rattle.std.proofs.lemmas.List.Sums.{sum_by-cons, sum_by-append}
 use Rattle.std.proofs.lemmas.List.Elements.{recursion_from_All}
-use Rattle.gs_model.specs.Terms.{Term}
 use Rattle.gs_term.specs.declared.names.Target.{Target}
 use Rattle.gs_term.specs.declared.names.Target.TheVariants.{Default}
 use Rattle.gs_pool.specs.declared.nodes.Key.{Key}
 use Rattle.gs_pool.specs.Pool.{Nodes}
 use Rattle.gs_tree.specs.Reading.{keys_at}
 use Rattle.gs_tree.proofs.FromLemmas.{from_all}
-use Rattle.gs_keys.specs.Texts.{key_cmp}
+use Rattle.gs_keys.specs.Texts.{Terms, key_cmp}
 use Rattle.gs_lines.specs.Pieces.{keys_left}
 use Rattle.gs_catalogue.specs.declared.versions.GraphVersion.{GraphVersion}
 use Rattle.gs_catalogue.specs.Catalogues.{GraphVersions, empty_version, triple_count}
@@ -55,7 +54,7 @@ counts_in_order g graphs o =
     ∙ sum_by-append triples_of_graph (default_first o.unnamed) (map with_target es)
     ∙ (λ i. default_count g.unnamed o.unnamed o.default i + sum_by-map triples_of_graph with_target es i)
 
-module _ (terms : List Term) (p : Nodes) (v : ℕ) (r : Recorded) (counted : CountTriples v p r.records) where
+module _ (terms : Terms) (p : Nodes) (v : ℕ) (r : Recorded) (counted : CountTriples v p r.records) where
   -- a record has as many places as its version counts triples
   one_counted : (n : ℕ) → has_number v r.records n ≡ true → length (record_places terms p r.records None n) ≡ triples_at r.records n
   one_counted n has =
@@ -72,7 +71,7 @@ module _ (terms : List Term) (p : Nodes) (v : ℕ) (r : Recorded) (counted : Cou
       ∙ sym (sum_by-cons (triples_at r.records) n ns)
 
 -- so there are as many lines
-pub lines_counted : (terms : List Term) (p : Nodes) (v : ℕ) (r : Recorded) → AreSingle r.records → AreListed r.records r.listed → CountTriples v p r.records → length (quads_left terms p v r None) ≡ triple_count (graphs_at v r.records)
+pub lines_counted : (terms : Terms) (p : Nodes) (v : ℕ) (r : Recorded) → AreSingle r.records → AreListed r.records r.listed → CountTriples v p r.records → length (quads_left terms p v r None) ≡ triple_count (graphs_at v r.records)
 lines_counted terms p v r single al counted =
     let ns = version_numbers v r in
     let had = recursion_from_All (λ n. has_number v r.records n ≡ true) ns (numbers_had v r) in

@@ -4,8 +4,8 @@ use Rattle.std.specs.List.{concat, flat_map}
 use Rattle.std.proofs.lemmas.Bool.{leb-true}
 use Rattle.std.proofs.lemmas.List.{append-nil, take_all, take-append-drop}
 use Rattle.std.proofs.lemmas.List.Folds.{concat-append}
-use Rattle.gs_model.specs.Terms.{Term}
 use Rattle.gs_pool.specs.Pool.{Nodes}
+use Rattle.gs_keys.specs.Texts.{Terms}
 use Rattle.gs_records.specs.Records.{Recorded}
 use Rattle.gs_quads.specs.declared.pieces.QuadPiece.{QuadPiece}
 use Rattle.gs_quads.specs.Places.{Place, quads_left}
@@ -16,7 +16,7 @@ whole : (count : ℕ) (xs : List (List ℕ)) → concat (take count xs) ++ conca
 whole count xs = sym (concat-append (take count xs) (drop count xs)) ∙ ap concat (take-append-drop count xs)
 
 -- the bytes of a read to its end
-pub pieces_joined : (v : ℕ) (terms : List Term) (p : Nodes) (r : Recorded) (from : Option Place) (pieces : List QuadPiece) → IsReadByPieces v terms p r from pieces
+pub pieces_joined : (v : ℕ) (terms : Terms) (p : Nodes) (r : Recorded) (from : Option Place) (pieces : List QuadPiece) → IsReadByPieces v terms p r from pieces
     → flat_map (λ (piece : QuadPiece). piece.lines.items) pieces ≡ concat (quads_left terms p v r from)
 pieces_joined v terms p r from pieces (ends _ _ _ _ count piece is last) =
     let xs = quads_left terms p v r from in

@@ -6,13 +6,12 @@ use Rattle.std.proofs.lemmas.Bool.{cases_lt}
 use Rattle.std.proofs.lemmas.List.{length-map, length-take, take-map, drop-map, take-take}
 use Rattle.std.proofs.lemmas.List.Elements.{All-nil, All-cons, All-append, All-map, All-take, All-get_or, recursion_from_All}
 use Rattle.std.proofs.lemmas.Option.{slice_get-get_or, slice_get_past}
-use Rattle.gs_model.specs.Terms.{Term}
 use Rattle.gs_pool.specs.declared.nodes.Key.{Key}
 use Rattle.gs_pool.specs.Pool.{Nodes}
 use Rattle.gs_tree.specs.Keys.{AllKeys}
 use Rattle.gs_tree.specs.Reading.{keys_at}
 use Rattle.gs_tree.proofs.KeysAfter.{left_after}
-use Rattle.gs_keys.specs.Texts.{key_cmp, key_total, IsGiven}
+use Rattle.gs_keys.specs.Texts.{Terms, key_cmp, key_total, IsGiven}
 use Rattle.gs_lines.specs.Pieces.{keys_left}
 use Rattle.gs_lines.proofs.PieceLemmas.{ends, goes_on, last_taken, any_key, left_given}
 use Rattle.gs_index.specs.Ages.{aged_number_cmp}
@@ -49,16 +48,16 @@ key_cut n (k ∷ ks) (y ∷ xs) x zs e =
     let others : as_places n ks ≡ xs ++ x ∷ zs = cc in
     longer_cut n k ks x zs (key_cut n ks xs x zs others)
 
--- a key whose numbers were given, of a record that the version has
-abbrev pub IsAt : List Term → ℕ → Recorded → Place → Type 0
+-- a key whose numbers have terms, of a record that the version has
+abbrev pub IsAt : Terms → ℕ → Recorded → Place → Type 0
 IsAt terms v r x = (has_number v r.records x.0 ≡ true) × IsGiven terms x.1
 
 -- what stands for a place where there is none
 any_place : Place
 any_place = (0, any_key)
 
-module _ (terms : List Term) (p : Nodes) (v : ℕ) (r : Recorded) (graphs : AreGraphs terms p v r.records) where
-  -- the places of keys whose numbers were given
+module _ (terms : Terms) (p : Nodes) (v : ℕ) (r : Recorded) (graphs : AreGraphs terms p v r.records) where
+  -- the places of keys whose numbers have terms
   own_at : (n : ℕ) → has_number v r.records n ≡ true → (ks : List Key) → AllKeys (IsGiven terms) ks → All (IsAt terms v r) (as_places n ks)
   own_at n has ks h = All-map (IsAt terms v r) (λ k. (n, k)) ks (λ k d lt. (has, given ks h k d lt))
     where

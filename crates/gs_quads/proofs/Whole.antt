@@ -6,7 +6,6 @@ use Rattle.std.proofs.lemmas.Grind.{flat_map-append}
 use Rattle.std.proofs.lemmas.List.{append-nil, map-append}
 use Rattle.std.proofs.lemmas.List.Elements.{recursion_from_All}
 use Rattle.std.proofs.lemmas.List.Folds.{flat_map-map}
-use Rattle.gs_model.specs.Terms.{Term}
 use Rattle.gs_model.specs.Triples.{line_of}
 use Rattle.gs_model.specs.Graphs.{triples_of, lines_of}
 use Rattle.gs_term.specs.declared.names.Target.{Target}
@@ -14,7 +13,7 @@ use Rattle.gs_pool.specs.declared.nodes.Key.{Key}
 use Rattle.gs_pool.specs.Pool.{Nodes}
 use Rattle.gs_tree.specs.Reading.{keys_at}
 use Rattle.gs_tree.proofs.FromLemmas.{from_all}
-use Rattle.gs_keys.specs.Texts.{key_cmp}
+use Rattle.gs_keys.specs.Texts.{Terms, key_cmp}
 use Rattle.gs_keys.specs.Roots.{graph_of_root}
 use Rattle.gs_keys.proofs.KeyLemmas.{triples_of_keys}
 use Rattle.gs_lines.specs.Graphs.{line_for, line_in}
@@ -34,11 +33,11 @@ use Rattle.gs_event.specs.Datasets.{named_lines, quads_of}
 use Rattle.gs_quads.proofs.Numbers.{numbers_had}
 
 -- the lines of places of one record
-pub quads_of_places : (terms : List Term) (rs : List Record) (n : ℕ) (ks : List Key) → map (quad_at terms rs) (as_places n ks) ≡ map (line_in terms (target_at rs n)) ks
+pub quads_of_places : (terms : Terms) (rs : List Record) (n : ℕ) (ks : List Key) → map (quad_at terms rs) (as_places n ks) ≡ map (line_in terms (target_at rs n)) ks
 quads_of_places terms rs n [] = refl
 quads_of_places terms rs n (k ∷ ks) = ap (λ xs. line_in terms (target_at rs n) k ∷ xs) (quads_of_places terms rs n ks)
 
-module _ (terms : List Term) (p : Nodes) where
+module _ (terms : Terms) (p : Nodes) where
   -- the lines of a graph and its version
   abbrev graph_lines : Target × GraphVersion → List (List ℕ)
   graph_lines g = map (line_for g.0) (triples_of (version_graph terms p g.1))

@@ -56,7 +56,7 @@ run_keys runs = sum_by (λ r. r.keys) runs
 abbrev pub IsRecordRun : Source → Run → Type 0
 IsRecordRun s r = is_kept (record_at s.records.now.records r.number) ≡ true
 
--- the numbers of keys were given
+-- the numbers of keys have terms
 abbrev pub KeysAreGiven : Source → List Key → Type 0
 KeysAreGiven s ks = AllKeys (IsGiven s.dict.now.terms) ks
 
@@ -64,7 +64,7 @@ KeysAreGiven s ks = AllKeys (IsGiven s.dict.now.terms) ks
 abbrev pub places_found : Found → List Place
 places_found f = run_places f.runs.items f.keys.items
 
--- the runs have exactly the keys, which are not too many; each run is of a record, and the numbers of the keys were given
+-- the runs have exactly the keys, which are not too many; each run is of a record, and the numbers of the keys have terms
 pub record AreFound (s : Source) (most : ℕ) (f : Found) : Type 0 where
   pub whole : run_keys f.runs.items ≡ length f.keys.items
   pub kept : All (IsRecordRun s) f.runs.items

@@ -1,11 +1,11 @@
 -- What the laws say.
-use Rattle.std.specs.Prelude.{◌≡◌, ℕ, ◌<◌, Bool, true, false, List, [], ◌∷◌, ◌++◌, length, slice_index_or, Option, Some, None}
+use Rattle.std.specs.Prelude.{◌≡◌, ℕ, ◌<◌, Bool, true, false, List, [], ◌∷◌, length, slice_index_or, Option, Some, None}
 use Rattle.std.specs.List.{concat, flat_map}
-use Rattle.gs_model.specs.Terms.{Term}
 use Rattle.gs_term.specs.declared.names.Target.{Target}
 use Rattle.gs_pool.specs.Pool.{Nodes}
 use Rattle.gs_tree.specs.Tree.{Stands, tree_at}
 use Rattle.gs_tree.specs.Reading.{keys_at}
+use Rattle.gs_keys.specs.Texts.{Terms, KeepTerms}
 use Rattle.gs_catalogue.specs.declared.versions.GraphVersion.{GraphVersion}
 use Rattle.gs_catalogue.specs.Catalogues.{triple_count}
 use Rattle.gs_datasets.specs.Standing.{dataset_at}
@@ -23,7 +23,7 @@ use Rattle.gs_event.specs.Datasets.{quads_of}
 -- from the beginning on, the lines of a version are those of its dataset
 abbrev pub AllAreTheDatasets : Type 0
 AllAreTheDatasets =
-    (terms : List Term) (p : Nodes) (v : ℕ) (r : Recorded)
+    (terms : Terms) (p : Nodes) (v : ℕ) (r : Recorded)
     → AreSingle r.records → AreListed r.records r.listed → AreGraphs terms p v r.records
     → quads_left terms p v r None ≡ quads_of (dataset_at terms p (graphs_at v r.records))
 
@@ -40,27 +40,27 @@ HasTrees v rs p q = (n : ℕ) → has_number v rs n ≡ true → Stands q (tree_
 
 -- A read of version v goes on among other terms, in another pool and other records: the version can be read there, the place where
 -- the read stands is one of it still, and the lines from there on are the same.
-pub record ReadGoesOn (terms later : List Term) (p q : Nodes) (v : ℕ) (old new : Recorded) (from : Option Place) : Type 0 where
+pub record ReadGoesOn (terms later : Terms) (p q : Nodes) (v : ℕ) (old new : Recorded) (from : Option Place) : Type 0 where
   pub graphs : AreGraphs later q v new.records
   pub place : IsQuadPlace later v new.records from
   pub lines : quads_left later q v new from ≡ quads_left terms p v old from
 
--- so it does among more terms, in a later pool that has the trees of the version, and among later records that have the version
+-- so it does where each number that has a term keeps it, in a later pool that has the trees of the version, and among later records that have the version
 abbrev pub QuadsOutlast : Type 0
 QuadsOutlast =
-    (terms more : List Term) (p q : Nodes) (v : ℕ) (old new : Recorded) (from : Option Place)
+    (terms later : Terms) → KeepTerms terms later → (p q : Nodes) (v : ℕ) (old new : Recorded) (from : Option Place)
     → AreListed old.records old.listed → AreListed new.records new.listed
     → AreGraphs terms p v old.records → IsQuadPlace terms v old.records from
     → HasSame v old new → HasTrees v old.records p q
-    → ReadGoesOn terms (terms ++ more) p q v old new from
+    → ReadGoesOn terms later p q v old new from
 
 -- A read of version v to the end, piece by piece, of so many lines each as was asked for then. The next piece begins at the last place of
 -- the one before, among terms, in a pool and in records where the lines from there on are the same.
-pub data IsReadByPieces (v : ℕ) : List Term → Nodes → Recorded → Option Place → List QuadPiece → Type 0 where
-  ends : (terms : List Term) (p : Nodes) (r : Recorded) (from : Option Place) (count : ℕ) (piece : QuadPiece)
+pub data IsReadByPieces (v : ℕ) : Terms → Nodes → Recorded → Option Place → List QuadPiece → Type 0 where
+  ends : (terms : Terms) (p : Nodes) (r : Recorded) (from : Option Place) (count : ℕ) (piece : QuadPiece)
       → IsQuadPiece terms p v r from count piece → piece.is_end ≡ true
       → IsReadByPieces v terms p r from (piece ∷ [])
-  goes : (terms later : List Term) (p q : Nodes) (r new : Recorded) (from : Option Place) (count : ℕ) (piece : QuadPiece) (rest : List QuadPiece)
+  goes : (terms later : Terms) (p q : Nodes) (r new : Recorded) (from : Option Place) (count : ℕ) (piece : QuadPiece) (rest : List QuadPiece)
       → IsQuadPiece terms p v r from count piece → piece.is_end ≡ false
       → quads_left later q v new piece.last ≡ quads_left terms p v r piece.last
       → IsReadByPieces v later q new piece.last rest
@@ -69,7 +69,7 @@ pub data IsReadByPieces (v : ℕ) : List Term → Nodes → Recorded → Option 
 -- the bytes of its pieces, joined, are those of all lines from its beginning on
 abbrev pub PiecesAreAll : Type 0
 PiecesAreAll =
-    (v : ℕ) (terms : List Term) (p : Nodes) (r : Recorded) (from : Option Place) (pieces : List QuadPiece)
+    (v : ℕ) (terms : Terms) (p : Nodes) (r : Recorded) (from : Option Place) (pieces : List QuadPiece)
     → IsReadByPieces v terms p r from pieces
     → flat_map (λ (piece : QuadPiece). piece.lines.items) pieces ≡ concat (quads_left terms p v r from)
 
@@ -80,7 +80,7 @@ CountTriples v p rs = (n : ℕ) → has_number v rs n ≡ true → (entry_of (re
 -- then a version has as many lines as its graphs have triples, by the count of each
 abbrev pub AsManyAsTriples : Type 0
 AsManyAsTriples =
-    (terms : List Term) (p : Nodes) (v : ℕ) (r : Recorded)
+    (terms : Terms) (p : Nodes) (v : ℕ) (r : Recorded)
     → AreSingle r.records → AreListed r.records r.listed → CountTriples v p r.records
     → length (quads_left terms p v r None) ≡ triple_count (graphs_at v r.records)
 

@@ -11,8 +11,9 @@ pub fn lines_are_as_many_as_triples()
     ensures { AsManyAsTriples }
 {}
 
-/// A read goes on among later records that have the version, in a later pool that has its trees, and among
-/// more terms: the version can be read, its place is one still, and the lines from there on are the same.
+/// A read goes on among later records that have the version, in a later pool that has its trees, and where
+/// each number that has a term keeps it: the version can be read, its place is one still, and the lines
+/// from there on are the same.
 pub fn quads_outlast_changes()
     ensures { QuadsOutlast }
 {}

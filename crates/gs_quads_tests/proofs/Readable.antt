@@ -3,8 +3,8 @@ use Rattle.std.proofs.Common.{◌≡◌, ℕ, Bool, true, false, ◌==◌, ◌||
 use Rattle.std.specs.List.{AllByRecursion}
 use Rattle.std.proofs.lemmas.List.{append-nil}
 use Rattle.std.proofs.lemmas.Map.Views.{exact_unsigned_eq}
-use Rattle.gs_model.specs.Terms.{Term}
 use Rattle.gs_pool.specs.Pool.{Nodes}
+use Rattle.gs_keys.specs.Texts.{Terms}
 use Rattle.gs_keys.specs.Roots.{IsGraphAt}
 use Rattle.gs_index.specs.declared.entries.Entry.{Entry}
 use Rattle.gs_index.specs.Indexes.{is_listed}
@@ -18,17 +18,17 @@ use Rattle.gs_quads_tests.specs.declared.trees.Roots.{Roots}
 use Rattle.gs_quads_tests.specs.Trees.{AreTrees, IsOneOf, AreOfTrees}
 
 -- no root is that of an empty graph
-none_graph : (terms : List Term) (p : Nodes) → IsGraphAt terms p None
+none_graph : (terms : Terms) (p : Nodes) → IsGraphAt terms p None
 none_graph terms p = record { set = record { root_is = refl; stands = tt; rising = tt }; given = tt }
 
 -- no root, and each of both, is that of a graph
-graph_of : (terms : List Term) (p : Nodes) (roots : Roots) → AreTrees terms p roots → (root : Option ℕ) → IsOneOf roots root → IsGraphAt terms p root
+graph_of : (terms : Terms) (p : Nodes) (roots : Roots) → AreTrees terms p roots → (root : Option ℕ) → IsOneOf roots root → IsGraphAt terms p root
 graph_of terms p roots trees root (inl none) = subst (IsGraphAt terms p) (sym none) (none_graph terms p)
 graph_of terms p roots trees root (inr (inl one)) = subst (IsGraphAt terms p) (sym one) trees.one
 graph_of terms p roots trees root (inr (inr two)) = subst (IsGraphAt terms p) (sym two) trees.two
 
 -- a version of such roots can be read
-pub readable : (terms : List Term) (p : Nodes) (roots : Roots) (v : ℕ) (rs : List Record) → AreTrees terms p roots → AreOfTrees roots v rs → AreGraphs terms p v rs
+pub readable : (terms : Terms) (p : Nodes) (roots : Roots) (v : ℕ) (rs : List Record) → AreTrees terms p roots → AreOfTrees roots v rs → AreGraphs terms p v rs
 readable terms p roots v rs trees of n has = graph_of terms p roots trees (root_at rs n) (of n has)
 
 -- the root of a record

@@ -1,7 +1,7 @@
 -- Two trees, and graphs of these alone.
 use Rattle.std.specs.Prelude.{◌≡◌, ◌⊎◌, ℕ, true, List, Option, None}
-use Rattle.gs_model.specs.Terms.{Term}
 use Rattle.gs_pool.specs.Pool.{Nodes}
+use Rattle.gs_keys.specs.Texts.{Terms}
 use Rattle.gs_keys.specs.Roots.{IsGraphAt}
 use Rattle.gs_records.specs.Records.{Record}
 use Rattle.gs_records.specs.Order.{has_number}
@@ -9,7 +9,7 @@ use Rattle.gs_quads.specs.Places.{root_at}
 use Rattle.gs_quads_tests.specs.declared.trees.Roots.{Roots}
 
 -- each of both roots is that of a graph
-pub record AreTrees (terms : List Term) (p : Nodes) (roots : Roots) : Type 0 where
+pub record AreTrees (terms : Terms) (p : Nodes) (roots : Roots) : Type 0 where
   pub one : IsGraphAt terms p roots.one
   pub two : IsGraphAt terms p roots.two
 

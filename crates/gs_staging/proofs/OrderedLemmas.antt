@@ -16,7 +16,7 @@ use Rattle.gs_model.specs.Graphs.{graph_of, as_entry}
 use Rattle.gs_model.proofs.GraphLemmas.{triple_total, triple_exact}
 use Rattle.gs_pool.specs.declared.nodes.Key.{Key}
 use Rattle.gs_tree.specs.Keys.{AllKeys, IsRising}
-use Rattle.gs_keys.specs.Texts.{triple_at, key_cmp, IsGiven}
+use Rattle.gs_keys.specs.Texts.{Terms, triple_at, key_cmp, IsGiven}
 use Rattle.gs_keys.proofs.KeyLemmas.{key_cmp_is}
 use Rattle.gs_triple_lists.specs.declared.lists.TripleNumbers.{TripleNumbers}
 use Rattle.gs_triple_lists.specs.Kept.{triples_of_numbers}
@@ -25,18 +25,18 @@ use Rattle.gs_staging.proofs.KeyLemmas.{only_twice}
 use Rattle.gs_staging.specs.Keys.{GivesOnly, IsTermIn, AreKeysOf, IsRunOfTriples}
 
 -- keys whose triples are above one are above its key
-above_all : (terms : List Term) (k : Key) (ks : List Key) → IsGiven terms k → AllKeys (IsGiven terms) ks → AllByRecursion (λ u. triple_cmp (triple_at terms k) u ≡ Less) (map (triple_at terms) ks) → AllKeys (λ y. key_cmp terms k y ≡ Less) ks
+above_all : (terms : Terms) (k : Key) (ks : List Key) → IsGiven terms k → AllKeys (IsGiven terms) ks → AllByRecursion (λ u. triple_cmp (triple_at terms k) u ≡ Less) (map (triple_at terms) ks) → AllKeys (λ y. key_cmp terms k y ≡ Less) ks
 above_all terms k [] g gs h = tt
 above_all terms k (y ∷ ks) g gs h = (key_cmp_is terms k y g gs.0 ∙ h.0, above_all terms k ks g gs.1 h.1)
 
 -- keys rise where their triples do
-keys_rise : (terms : List Term) (ks : List Key) → AllKeys (IsGiven terms) ks → IsStrictlySortedBy triple_cmp (map (triple_at terms) ks) → IsRising (key_cmp terms) ks
+keys_rise : (terms : Terms) (ks : List Key) → AllKeys (IsGiven terms) ks → IsStrictlySortedBy triple_cmp (map (triple_at terms) ks) → IsRising (key_cmp terms) ks
 unfolding IsStrictlySortedBy
 keys_rise terms [] given up = tt
 keys_rise terms (k ∷ ks) given up = (above_all terms k ks given.0 given.1 up.0, keys_rise terms ks given.1 up.1)
 
 -- keys of triples in order are a run
-pub ordered_run : (terms known : List Term) (ts : List RdfTriple) (ns : List TripleNumbers) (ks : List Key) → IsOrderOf known ts ns → AreKeysOf terms (triples_of_numbers known ns) ks → IsRunOfTriples terms ts ks
+pub ordered_run : (terms : Terms) (known : List Term) (ts : List RdfTriple) (ns : List TripleNumbers) (ks : List Key) → IsOrderOf known ts ns → AreKeysOf terms (triples_of_numbers known ns) ks → IsRunOfTriples terms ts ks
 ordered_run terms known ts ns ks order keys = record {
   rising = keys_rise terms ks keys.given (subst (IsStrictlySortedBy triple_cmp) (sym keys.said) order.rising);
   given = keys.given;
@@ -83,5 +83,5 @@ term_among xs ys u same h =
     record { place = there.0; triple = h.triple; there = there.1; term = h.term }
 
 -- numbers that were given to terms of triples in order were given to terms of their list
-pub ordered_only : (known : List Term) (ts : List RdfTriple) (ns : List TripleNumbers) (old new : List Term) → IsOrderOf known ts ns → GivesOnly (IsTermIn (triples_of_numbers known ns)) old new → GivesOnly (IsTermIn ts) old new
+pub ordered_only : (known : List Term) (ts : List RdfTriple) (ns : List TripleNumbers) (old new : Terms) → IsOrderOf known ts ns → GivesOnly (IsTermIn (triples_of_numbers known ns)) old new → GivesOnly (IsTermIn ts) old new
 ordered_only known ts ns old new order gives = only_twice old old new (λ n u h. inl h) (λ u h. term_among (triples_of_numbers known ns) ts u order.graph h) gives

@@ -12,14 +12,13 @@ use Rattle.std.proofs.lemmas.List.Elements.{All-from_recursion, recursion_from_A
 use Rattle.std.proofs.lemmas.List.Filters.{All-dedup}
 use Rattle.std.proofs.lemmas.List.Kept.{IsStrictlySortedBy-dedup}
 use Rattle.std.proofs.lemmas.List.Sorted.{All-permutation, list_any-IsPermutation}
-use Rattle.gs_model.specs.Terms.{Term}
 use Rattle.gs_model.specs.Triples.{RdfTriple, triple_cmp}
 use Rattle.gs_model.specs.Graphs.{graph_of}
 use Rattle.gs_model.proofs.GraphLemmas.{same_graph}
 use Rattle.gs_dict.specs.Numbering.{IsDistinct}
 use Rattle.gs_pool.specs.declared.nodes.Key.{Key}
 use Rattle.gs_tree.specs.Keys.{AllKeys, IsRising}
-use Rattle.gs_keys.specs.Texts.{triple_at, key_cmp, key_total, IsGiven}
+use Rattle.gs_keys.specs.Texts.{Terms, triple_at, key_cmp, key_total, IsGiven}
 use Rattle.gs_keys.proofs.KeyLemmas.{tied_keys}
 use Rattle.gs_staging.specs.Keys.{is_same, AreKeysOf, IsRunOf, IsRunOfTriples}
 
@@ -47,7 +46,7 @@ module _ (P : Key → Type 0) where
   all_dedup E ks h = from_all (dedup E ks) (All-dedup E P ks (to_all ks h))
 
 -- keys in strict order rise
-strict_rises : (terms : List Term) (ks : List Key) → IsStrictlySortedBy (key_cmp terms) ks → IsRising (key_cmp terms) ks
+strict_rises : (terms : Terms) (ks : List Key) → IsStrictlySortedBy (key_cmp terms) ks → IsRising (key_cmp terms) ks
 unfolding IsStrictlySortedBy
 strict_rises terms [] h = tt
 strict_rises terms (k ∷ ks) h = (from_recursion (λ y. key_cmp terms k y ≡ Less) ks h.0, strict_rises terms ks h.1)
@@ -110,7 +109,7 @@ tied_is Equal e = refl
 tied_is Greater e = absurd (cc)
 
 -- keys have the same numbers exactly where their texts compare as equal
-same_as_tied : (terms : List Term) → IsDistinct terms → (a b : Key) → IsGiven terms a → IsGiven terms b → is_same a b ≡ eq_by_cmp (key_cmp terms) a b
+same_as_tied : (terms : Terms) → IsDistinct terms → (a b : Key) → IsGiven terms a → IsGiven terms b → is_same a b ≡ eq_by_cmp (key_cmp terms) a b
 same_as_tied terms distinct a b ga gb = alike (is_same a b) (eq_by_cmp (key_cmp terms) a b) refl refl
   where
     alike : (r s : Bool) → is_same a b ≡ r → eq_by_cmp (key_cmp terms) a b ≡ s → r ≡ s
@@ -120,17 +119,17 @@ same_as_tied terms distinct a b ga gb = alike (is_same a b) (eq_by_cmp (key_cmp 
     alike false true e f = sym e ∙ ap (λ k. is_same a k) (sym (tied_keys terms a b distinct ga gb (tied_is (key_cmp terms a b) f))) ∙ same_itself a
 
 -- the triples of a list pass a test as its keys do
-pub any_map : (terms : List Term) (p : RdfTriple → Bool) (ks : List Key) → list_any p (map (triple_at terms) ks) ≡ list_any (λ k. p (triple_at terms k)) ks
+pub any_map : (terms : Terms) (p : RdfTriple → Bool) (ks : List Key) → list_any p (map (triple_at terms) ks) ≡ list_any (λ k. p (triple_at terms k)) ks
 any_map terms p [] = refl
 any_map terms p (k ∷ ks) = ap (λ b. p (triple_at terms k) || b) (any_map terms p ks)
 
 -- keys that rise are a run already
-pub rising_run : (terms : List Term) (ks : List Key) → AllKeys (IsGiven terms) ks → IsRising (key_cmp terms) ks → IsRunOf terms ks ks
+pub rising_run : (terms : Terms) (ks : List Key) → AllKeys (IsGiven terms) ks → IsRising (key_cmp terms) ks → IsRunOf terms ks ks
 rising_run terms ks given rising = record { rising = rising; given = given; graph = refl }
 
 -- sorted keys without repeats are a run
 pub sorted_run :
-    (terms : List Term) → IsDistinct terms → (ks sorted run : List Key) → AllKeys (IsGiven terms) ks → IsPermutation ks sorted → IsSorted (key_cmp terms) sorted → run ≡ dedup is_same sorted
+    (terms : Terms) → IsDistinct terms → (ks sorted run : List Key) → AllKeys (IsGiven terms) ks → IsPermutation ks sorted → IsSorted (key_cmp terms) sorted → run ≡ dedup is_same sorted
     → IsRunOf terms ks run
 sorted_run terms distinct ks sorted run given moved up is =
     let all = all_permuted (IsGiven terms) ks sorted moved given in
@@ -146,5 +145,5 @@ sorted_run terms distinct ks sorted run given moved up is =
     }
 
 -- a run of the keys of triples is a run of the triples
-pub run_of_triples : (terms : List Term) (ts : List RdfTriple) (ks run : List Key) → AreKeysOf terms ts ks → IsRunOf terms ks run → IsRunOfTriples terms ts run
+pub run_of_triples : (terms : Terms) (ts : List RdfTriple) (ks run : List Key) → AreKeysOf terms ts ks → IsRunOf terms ks run → IsRunOfTriples terms ts run
 run_of_triples terms ts ks run keys sorted = record { rising = sorted.rising; given = sorted.given; graph = sorted.graph ∙ ap graph_of keys.said }

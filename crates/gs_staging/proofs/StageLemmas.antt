@@ -7,7 +7,6 @@ use Rattle.std.specs.declared.cmp.Ordering.{Ordering}
 use Rattle.std.specs.declared.cmp.Ordering.TheVariants.{Less, Equal, Greater}
 use Rattle.std.proofs.lemmas.List.{length-map}
 use Rattle.std.proofs.lemmas.List.Folds.{list_any-append}
-use Rattle.gs_model.specs.Terms.{Term}
 use Rattle.gs_model.specs.Triples.{RdfTriple, triple_cmp}
 use Rattle.gs_model.specs.Graphs.{Graph, graph_of, triples_of, with_triples, size_of}
 use Rattle.gs_model.proofs.GraphLemmas.{same_graph}
@@ -18,7 +17,7 @@ use Rattle.gs_tree.specs.declared.unions.Merged.{Merged}
 use Rattle.gs_tree.specs.Keys.{AllKeys, insert_key, insert_by, merge_keys}
 use Rattle.gs_tree.specs.Reading.{keys_at}
 use Rattle.gs_tree.specs.Sets.{IsSetAt, UnitesAt}
-use Rattle.gs_keys.specs.Texts.{triple_at, key_cmp, IsGiven}
+use Rattle.gs_keys.specs.Texts.{Terms, KeepTerms, triple_at, key_cmp, IsGiven}
 use Rattle.gs_keys.specs.Roots.{graph_of_root, IsGraphAt}
 use Rattle.gs_keys.proofs.KeyLemmas.{tied_keys, triples_of_keys}
 use Rattle.gs_keys.proofs.RootLemmas.{all_insert, all_merge, all_given_kept, set_kept, set_graph, graph_kept}
@@ -27,33 +26,33 @@ use Rattle.gs_staging.specs.Keys.{Grows, IsRunOfTriples}
 use Rattle.gs_staging.specs.Staging.{IsStaged, IsStillStaged, Stages}
 
 -- the tree of an upload stands for a graph
-pub staged_graph : (terms : List Term) (p : Nodes) (root : Option ℕ) → IsStaged terms p root → IsGraphAt terms p root
+pub staged_graph : (terms : Terms) (p : Nodes) (root : Option ℕ) → IsStaged terms p root → IsGraphAt terms p root
 staged_graph terms p root h = set_graph terms p root h.set h.given
 
 -- its triples are those of its keys
-pub staged_triples : (terms : List Term) (p : Nodes) (root : Option ℕ) → IsStaged terms p root → triples_of (graph_of_root terms p root) ≡ map (triple_at terms) (keys_at p root)
+pub staged_triples : (terms : Terms) (p : Nodes) (root : Option ℕ) → IsStaged terms p root → triples_of (graph_of_root terms p root) ≡ map (triple_at terms) (keys_at p root)
 staged_triples terms p root h = triples_of_keys terms (keys_at p root) h.set.rising h.given
 
 -- it has as many as the tree has keys
-pub staged_size : (terms : List Term) (p : Nodes) (root : Option ℕ) → IsStaged terms p root → size_of (graph_of_root terms p root) ≡ length (keys_at p root)
+pub staged_size : (terms : Terms) (p : Nodes) (root : Option ℕ) → IsStaged terms p root → size_of (graph_of_root terms p root) ≡ length (keys_at p root)
 staged_size terms p root h = ap length (staged_triples terms p root h) ∙ length-map (keys_at p root) (triple_at terms)
 
--- among more terms it is what it was
-pub staged_kept : (terms more : List Term) (p : Nodes) (root : Option ℕ) → IsStaged terms p root → IsStillStaged terms more p root
-staged_kept terms more p root h = record {
-  staged = record { set = set_kept terms more p root h.set h.given; given = all_given_kept terms more (keys_at p root) h.given };
-  same = (graph_kept terms more p root (staged_graph terms p root h)).same;
+-- among later terms it is what it was
+pub staged_kept : (terms later : Terms) → KeepTerms terms later → (p : Nodes) (root : Option ℕ) → IsStaged terms p root → IsStillStaged terms later p root
+staged_kept terms later keep p root h = record {
+  staged = record { set = set_kept terms later keep p root h.set h.given; given = all_given_kept terms later keep (keys_at p root) h.given };
+  same = (graph_kept terms later keep p root (staged_graph terms p root h)).same;
 }
 
 -- so it is where the dictionary has grown
 pub staged_grown : (d e : Numbered) (p : Nodes) (root : Option ℕ) → Grows d e → IsStaged d.terms p root → IsStaged e.terms p root
-staged_grown d e p root grows h = subst (λ terms. IsStaged terms p root) (sym grows.terms) (staged_kept d.terms grows.more p root h).staged
+staged_grown d e p root grows h = (staged_kept d.terms e.terms grows.terms p root h).staged
 
 -- no root is staged
-pub none_staged : (terms : List Term) (p : Nodes) → IsStaged terms p None
+pub none_staged : (terms : Terms) (p : Nodes) → IsStaged terms p None
 none_staged terms p = record { set = record { root_is = refl; stands = tt; balanced = tt; rising = tt; apart = λ x. omega arith }; given = tt }
 
-module _ (terms : List Term) (distinct : IsDistinct terms) (p : Key → Bool) where
+module _ (terms : Terms) (distinct : IsDistinct terms) (p : Key → Bool) where
   -- laws of `||`
   middle : (a b c : Bool) → (a || (b || c)) ≡ (b || (a || c))
   middle true true c = refl
@@ -94,7 +93,7 @@ module _ (terms : List Term) (distinct : IsDistinct terms) (p : Key → Bool) wh
       ∙ ap (λ b. b || list_any p run) (any_insert x ks g.0 gs) ∙ turned (p x) (list_any p ks) (list_any p run)
 
 -- a run that goes into keys has the triples of both
-merged_graph : (terms : List Term) → IsDistinct terms → (run ks : List Key) → AllKeys (IsGiven terms) run → AllKeys (IsGiven terms) ks
+merged_graph : (terms : Terms) → IsDistinct terms → (run ks : List Key) → AllKeys (IsGiven terms) run → AllKeys (IsGiven terms) ks
     → graph_of (map (triple_at terms) (merge_keys (key_cmp terms) run ks)) ≡ graph_of (map (triple_at terms) ks ++ map (triple_at terms) run)
 merged_graph terms distinct run ks g gs = same_graph _ _ (λ q.
     let has = eq_by_cmp triple_cmp q in
@@ -116,7 +115,7 @@ pub with_run :
     → IsStaged e.terms q new × (graph_of_root e.terms q new ≡ with_triples (graph_of_root d.terms p root) ts)
 with_run d e p q root new ts run grows distinct old is set keys_are =
     let still = staged_grown d e p root grows old in
-    let same : graph_of_root e.terms p root ≡ graph_of_root d.terms p root = ap (λ terms. graph_of_root terms p root) grows.terms ∙ (staged_kept d.terms grows.more p root old).same in
+    let same : graph_of_root e.terms p root ≡ graph_of_root d.terms p root = (staged_kept d.terms e.terms grows.terms p root old).same in
     let given : AllKeys (IsGiven e.terms) (keys_at q new) =
     subst (AllKeys (IsGiven e.terms)) (sym keys_are) (all_merge (key_cmp e.terms) (IsGiven e.terms) run (keys_at p root) is.given still.given) in
     let grown : graph_of_root e.terms q new ≡ with_triples (graph_of_root e.terms p root) ts =

@@ -2,7 +2,7 @@
 use Rattle.std.specs.Prelude.{◌≡◌, ◌≤◌, ℕ, true, false, List, length, slice_index_or}
 use Rattle.std.specs.List.{All}
 use Rattle.gs_model.specs.Terms.{Term}
-use Rattle.gs_dict.specs.Numbering.{IsNumberOf}
+use Rattle.gs_dict.specs.Numbering.{Terms, IsNumberOf}
 use Rattle.gs_triple_lists.specs.Kept.{term_of_number}
 use Rattle.gs_staging.specs.declared.keys.Noted.{Noted}
 
@@ -20,6 +20,6 @@ pub record AreGuesses (n : ℕ) (ns : List Noted) : Type 0 where
   pub all : All IsGuess ns
 
 -- there is a place for each term of a list, and a number that is known is the term's in the dictionary
-pub record AreNoted (given terms : List Term) (ns : List Noted) : Type 0 where
+pub record AreNoted (given : Terms) (terms : List Term) (ns : List Noted) : Type 0 where
   pub places : length terms ≤ length ns
   pub known : (n : ℕ) → (noted_at ns n).is_known ≡ true → IsNumberOf given (noted_at ns n).id.number (term_of_number terms n)

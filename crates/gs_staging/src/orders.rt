@@ -3,7 +3,7 @@ ghost use Rattle.std.specs.Prelude.{◌≡◌, ◌&&◌, ◌==◌, ◌<◌, ◌�
 ghost use Rattle.std.specs.List.Sorted.{IsPermutation, IsSorted};
 ghost use Rattle.gs_dict.specs.Numbering.{IsDistinct};
 ghost use Rattle.gs_tree.specs.Keys.{AllKeys};
-ghost use Rattle.gs_keys.specs.Texts.{key_cmp, IsGiven};
+ghost use Rattle.gs_keys.specs.Texts.{key_cmp, IsGiven, dict_of};
 ghost use Rattle.gs_staging.specs.Keys.{is_same as is_same_key, IsRunOf};
 ghost use Rattle.gs_staging.specs.Groups.{is_before as is_before_by, IsInOrder, SortsWithin, MayFollowKey, MayPrecede};
 
@@ -176,9 +176,9 @@ fn sort(order: &ByText, keys: &mut [Key])
 /// Puts keys into their order, and drops repeats. Keys that rise already stay as they are. Takes
 /// no memory.
 pub fn put_in_order(order: &ByText, keys: &mut Vec<Key>)
-    requires distinct { IsDistinct order.now.dict.now.terms }
-    requires given { AllKeys (IsGiven order.now.dict.now.terms) keys.old.items }
-    ensures { IsRunOf order.now.dict.now.terms keys.old.items keys.new.items }
+    requires distinct { IsDistinct (dict_of order.now).terms }
+    requires given { AllKeys (IsGiven (dict_of order.now).terms) keys.old.items }
+    ensures { IsRunOf (dict_of order.now).terms keys.old.items keys.new.items }
 {
     if is_rising(order, keys.as_slice()) {
         return;

@@ -1,9 +1,8 @@
 -- What the Open of an upload makes of the books and of the seat, and what a Cancel does.
-use Rattle.std.proofs.Common.{◌≡◌, ◌+◌, ◌<◌, ℕ, List, ◌∷◌, length, get_or, Option, None, refl, sym, ap, subst, ◌∙◌}
+use Rattle.std.proofs.Common.{◌≡◌, ◌+◌, ◌<◌, ℕ, ◌∷◌, length, get_or, Option, None, refl, sym, ap, subst, ◌∙◌}
 use Rattle.std.specs.List.{All, count_by}
 use Rattle.std.proofs.lemmas.List.{length-map, set-get_or}
 use Rattle.std.specs.Prelude.{is_some, slice_index_or}
-use Rattle.gs_model.specs.Terms.{Term}
 use Rattle.gs_model.specs.Graphs.{empty_graph, size_of}
 use Rattle.gs_model.specs.Limits.{last_number}
 use Rattle.gs_term.specs.declared.names.Target.{Target}
@@ -15,7 +14,7 @@ use Rattle.gs_event.specs.Wasting.{Joins, IsUnreached}
 use Rattle.gs_pool.specs.declared.nodes.Key.{Key}
 use Rattle.gs_pool.specs.Pool.{Nodes, aside_count}
 use Rattle.gs_tree.specs.Tree.{leaf, keys, tree_at}
-use Rattle.gs_keys.specs.Texts.{triple_at}
+use Rattle.gs_keys.specs.Texts.{Terms, triple_at}
 use Rattle.gs_keys.specs.Roots.{graph_of_root}
 use Rattle.gs_keys.proofs.KeyLemmas.{triples_of_keys}
 use Rattle.gs_staging.proofs.KeyLemmas.{still_grows}
@@ -99,7 +98,7 @@ seat_upload b s seat k r v o since writes =
     (λ (ready : IsReady b s (Writing k r v o since)). has_upload b k r v o since (record { number = s; ready = ready }))
 
 -- a version's graph has a triple for each key
-pub version_size : (terms : List Term) (p : Nodes) (v : GraphVersion) → IsVersion terms p v → size_of (graph_of_root terms p v.root) ≡ length (keys (tree_at p v.root))
+pub version_size : (terms : Terms) (p : Nodes) (v : GraphVersion) → IsVersion terms p v → size_of (graph_of_root terms p v.root) ≡ length (keys (tree_at p v.root))
 version_size terms p v is =
     let ks = keys (tree_at p v.root) in
     ap length (triples_of_keys terms ks is.keyed.rising is.keyed.given) ∙ length-map ks (triple_at terms)

@@ -1,13 +1,12 @@
 -- What a draft of a target's graph begins with.
-use Rattle.std.proofs.Common.{◌≡◌, ℕ, ◌+◌, List, ◌∷◌, Option, Some, None, unwrap_or, refl, sym, subst, arith}
+use Rattle.std.proofs.Common.{◌≡◌, ℕ, ◌+◌, ◌∷◌, Option, Some, None, unwrap_or, refl, sym, subst, arith}
 use Rattle.std.specs.List.{All}
 use Rattle.std.proofs.lemmas.List.Elements.{All-head}
-use Rattle.gs_model.specs.Terms.{Term}
 use Rattle.gs_term.specs.declared.names.Target.{Target}
 use Rattle.gs_pool.specs.Pool.{Nodes}
 use Rattle.gs_tree.specs.Tree.{Tree, root_of, tree_at}
 use Rattle.gs_tree.specs.Sets.{IsSetAt}
-use Rattle.gs_keys.specs.Texts.{key_cmp}
+use Rattle.gs_keys.specs.Texts.{Terms, key_cmp}
 use Rattle.gs_changes.proofs.ChangeLemmas.{born_before}
 use Rattle.gs_catalogue.specs.declared.versions.GraphVersion.{GraphVersion}
 use Rattle.gs_catalogue.specs.Catalogues.{GraphVersions, empty_version, version_at}
@@ -23,7 +22,7 @@ use Rattle.gs_tree_store.specs.Drafts.{CanDraft}
 use Rattle.gs_tree_store.proofs.CommitLemmas.{version_or, apart_ledger, empty_is}
 
 -- the version of a target is that of a graph, as an empty one is
-target_version : (terms : List Term) (p : Nodes) (g : GraphVersions) (t : Target) → All (IsVersion terms p) (all_versions g) → IsVersion terms p (version_or g t)
+target_version : (terms : Terms) (p : Nodes) (g : GraphVersions) (t : Target) → All (IsVersion terms p) (all_versions g) → IsVersion terms p (version_or g t)
 target_version terms p g t all = by_version (version_at g t) refl
   where
     by_version : (o : Option GraphVersion) → version_at g t ≡ o → IsVersion terms p (unwrap_or o empty_version)

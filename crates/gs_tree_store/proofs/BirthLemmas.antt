@@ -2,12 +2,11 @@
 use Rattle.std.proofs.Common.{◌≡◌, ℕ, List, [], map, length, get_or, Option, Some, None, option_map, unwrap_or, refl, sym, ap, ◌∙◌, inl, inr, arith}
 use Rattle.std.proofs.lemmas.Bool.{cases_lt}
 use Rattle.std.proofs.lemmas.List.{length-map, get_or-map, get_or_past}
-use Rattle.gs_model.specs.Terms.{Term}
 use Rattle.gs_term.specs.declared.names.Target.{Target}
 use Rattle.gs_term.specs.declared.names.Target.TheVariants.{Default, Named}
 use Rattle.gs_pool.specs.Pool.{Nodes}
 use Rattle.gs_tree.specs.Tree.{Tree, leaf, keys, tree_at}
-use Rattle.gs_keys.specs.Texts.{triple_at}
+use Rattle.gs_keys.specs.Texts.{Terms, triple_at}
 use Rattle.gs_keys.proofs.KeyLemmas.{triples_of_keys}
 use Rattle.gs_event.specs.Views.{SeatView}
 use Rattle.gs_event.specs.Births.{births_at, staged_births}
@@ -49,7 +48,7 @@ module _ (a : Inside) where
   staged_births-is k = map_or (upload_births a.books) a.seats.items k Idle
 
 -- a birth for each triple that a seat staged
-seat_births : (terms : List Term) (p : Nodes) (rs : Recorded) (s : Seat) → IsSeat terms p rs s → length (tree_births (upload_tree p s)) ≡ staged_at (seat_shown terms p rs s)
+seat_births : (terms : Terms) (p : Nodes) (rs : Recorded) (s : Seat) → IsSeat terms p rs s → length (tree_births (upload_tree p s)) ≡ staged_at (seat_shown terms p rs s)
 seat_births terms p rs Idle is = refl
 seat_births terms p rs (Writing k r v o since) is =
     let ks = keys (tree_at p v.root) in

@@ -1,8 +1,7 @@
 -- What the end of a commit makes of the books, beside records that are written.
-use Rattle.std.proofs.Common.{◌≡◌, ◌+◌, ◌<◌, ℕ, true, List, [], ◌∷◌, ◌++◌, length, get_or, Option, Some, None, option_map, unwrap_or, string_bytes, refl, sym, ap, subst, ◌∙◌, arith, append-nil}
+use Rattle.std.proofs.Common.{◌≡◌, ◌+◌, ◌<◌, ℕ, true, List, [], ◌∷◌, length, get_or, Option, Some, None, option_map, unwrap_or, string_bytes, refl, sym, ap, subst, ◌∙◌, arith}
 use Rattle.std.specs.List.{All}
 use Rattle.std.proofs.lemmas.List.Elements.{All-head, Contains-get_or}
-use Rattle.gs_model.specs.Terms.{Term}
 use Rattle.gs_model.specs.Bases.{is_base}
 use Rattle.gs_model.specs.Graphs.{empty_graph}
 use Rattle.gs_model.specs.Limits.{last_number, last_node}
@@ -12,8 +11,10 @@ use Rattle.gs_event.specs.Datasets.{with_graph, size_at}
 use Rattle.gs_event.specs.Conditions.{with_write, with_delete}
 use Rattle.gs_event.specs.Born.{Leave}
 use Rattle.gs_event.specs.Wasting.{Joins, EndsAt, DeleteRecords}
+use Rattle.gs_dict.proofs.NumberLemmas.{keep_same}
 use Rattle.gs_pool.specs.Pool.{Nodes, aside_count}
 use Rattle.gs_tree.specs.Tree.{Tree, leaf, root_of, keys, tree_at}
+use Rattle.gs_keys.specs.Texts.{Terms}
 use Rattle.gs_keys.specs.Roots.{graph_of_root}
 use Rattle.gs_catalogue.specs.declared.versions.GraphVersion.{GraphVersion}
 use Rattle.gs_catalogue.specs.Catalogues.{GraphVersions, empty_version, version_at, with_version, without_name}
@@ -78,7 +79,7 @@ apart_ledger p v g t us rs ds l =
     (reorder_ledger p v (graph_trees p g) (target_tree p g t ∷ other_trees p g t) us us rs ds ds (one_is_apart p g t) (same_trees us) (same_dead ds) l)
 
 -- The versions of all graphs, and a target.
-module _ (terms : List Term) (p : Nodes) (g : GraphVersions) (t : Target) (all : All (IsVersion terms p) (all_versions g)) where
+module _ (terms : Terms) (p : Nodes) (g : GraphVersions) (t : Target) (all : All (IsVersion terms p) (all_versions g)) where
   root_if : (o : Option GraphVersion) → version_at g t ≡ o → root_of (tree_at p (unwrap_or o empty_version).root) ≡ (unwrap_or o empty_version).root
   root_if None is = refl
   root_if (Some v) is = (all_target (IsVersion terms p) g t v is all).root_is
@@ -104,7 +105,7 @@ pub roots_same : (p q : Nodes) → q.nodes ≡ p.nodes → (root : Option ℕ) �
 roots_same p q nodes root = tree_at_same p q (λ x. ap (λ ns. get_or ns x None) nodes) root
 
 -- a version whose tree is the same is one still
-pub still_version : (terms : List Term) (p q : Nodes) (v : GraphVersion) → version_tree q v ≡ version_tree p v → IsVersion terms p v → IsVersion terms q v
+pub still_version : (terms : Terms) (p q : Nodes) (v : GraphVersion) → version_tree q v ≡ version_tree p v → IsVersion terms p v → IsVersion terms q v
 still_version terms p q v same is = record {
   root_is = ap root_of same ∙ is.root_is;
   keyed = subst (IsKeyed terms) (sym same) is.keyed;
@@ -112,7 +113,7 @@ still_version terms p q v same is = record {
 }
 
 -- an empty graph has a version
-pub empty_is : (terms : List Term) (p : Nodes) → IsVersion terms p empty_version
+pub empty_is : (terms : Terms) (p : Nodes) → IsVersion terms p empty_version
 empty_is terms p = record { root_is = refl; keyed = record { balanced = tt; rising = tt; given = tt }; counted = refl }
 
 -- what the end of a commit makes of the books, where this was the root of a graph
@@ -212,14 +213,13 @@ version_set old new t u e graphs latest sound is number =
     let g = graphs_of old in
     let h = with_version g t u in
     let tree : version_tree q u ≡ version_tree p u = roots_same p q e.nodes u.root in
-    let now : IsVersion (terms ++ []) q u = subst (λ ts. IsVersion ts q u) (sym (append-nil terms)) (still_version terms p q u tree is) in
-    let sets : SetsOne terms [] p q g t u = one_is_set terms [] p q g t u sound.versions (others_same old new t e sound number h graphs latest) now in
-    let set_to : dataset_at terms q h ≡ with_graph (dataset_at terms p g) t (version_graph terms q u) = subst (λ ts. dataset_at ts q h ≡ with_graph (dataset_at terms p g) t (version_graph ts q u)) (append-nil terms) sets.dataset in
+    let now : IsVersion terms q u = still_version terms p q u tree is in
+    let sets : SetsOne terms terms p q g t u = one_is_set terms terms (keep_same terms) p q g t u sound.versions (others_same old new t e sound number h graphs latest) now in
     let graph : version_graph terms q u ≡ graph_of_root terms p u.root = ap (tree_graph terms) tree in
     record {
-      dataset = dataset_now old new t e sound number h graphs latest ∙ set_to ∙ ap (with_graph (dataset_at terms p g) t) graph;
+      dataset = dataset_now old new t e sound number h graphs latest ∙ sets.dataset ∙ ap (with_graph (dataset_at terms p g) t) graph;
       kept = kept_books old new (version_or g t).root e;
-      sound = sound_now old new t e sound number h graphs latest (subst (λ ts. All (IsVersion ts q) (all_versions h)) (append-nil terms) sets.versions);
+      sound = sound_now old new t e sound number h graphs latest sets.versions;
       ledgers = ends_now old new t e sound number h graphs latest (tree_at p u.root) (subst (λ x. AreSameTrees (x ∷ other_trees p g t) (graph_trees q h)) tree sets.trees);
       births = subst (λ x. SetsBirths old new t (tree_births x)) tree (set_bears old new t u graphs (others_same old new t e sound number h graphs latest));
     }

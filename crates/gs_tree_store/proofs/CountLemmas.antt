@@ -5,13 +5,12 @@ use Rattle.std.specs.FinMap as fin
 use Rattle.std.proofs.lemmas.List.{length-map}
 use Rattle.std.proofs.lemmas.List.Elements.{All-head, All-tail}
 use Rattle.std.proofs.lemmas.List.Sums.{sum_by-cons}
-use Rattle.gs_model.specs.Terms.{Term}
 use Rattle.gs_event.specs.Datasets.{triples_in, records_in}
 use Rattle.gs_event.specs.Views.{SeatView}
 use Rattle.gs_event.specs.Waste.{Shown, held_at, held_in, nodes_in}
 use Rattle.gs_pool.specs.Pool.{Nodes, in_use}
 use Rattle.gs_tree.specs.Tree.{Tree, keys, tree_at}
-use Rattle.gs_keys.specs.Texts.{triple_at}
+use Rattle.gs_keys.specs.Texts.{Terms, triple_at}
 use Rattle.gs_keys.proofs.KeyLemmas.{triples_of_keys}
 use Rattle.gs_catalogue.specs.declared.versions.GraphVersion.{GraphVersion}
 use Rattle.gs_catalogue.specs.Catalogues.{GraphVersions, triple_count}
@@ -35,7 +34,7 @@ use Rattle.gs_tree_store.proofs.RecordLemmas.{nothing_is}
 all_parts : (pool used triples graphs staged open_now dead ended : ℕ) → pool ≡ triples + staged + dead → used ≡ graphs + open_now + ended → pool + used ≡ triples + graphs + (staged + open_now) + (dead + ended)
 all_parts pool used triples graphs staged open_now dead ended x y = omega (arith, x, y)
 
-module _ (terms : List Term) (p : Nodes) where
+module _ (terms : Terms) (p : Nodes) where
   -- there is a record for each name, and one for a default graph that is not empty
   pub records_in-is : (g : GraphVersions) → All (IsVersion terms p) (all_versions g) → records_in (dataset_at terms p g) ≡ records_of_graphs g
   records_in-is g all =

@@ -1,7 +1,6 @@
 -- Drafts: what copies make of a version, and what the books are once a draft is kept.
 use Rattle.std.proofs.Common.{◌≡◌, ◌+◌, ◌*◌, ◌^◌, ◌<◌, ◌≤◌, ℕ, List, ◌∷◌, ◌++◌, map, length, Option, Some, None, option_map, unwrap_or, refl, sym, ap, subst, ◌∙◌, arith}
 use Rattle.std.specs.List.{All}
-use Rattle.gs_model.specs.Terms.{Term}
 use Rattle.gs_model.specs.Graphs.{Graph, graph_of, triples_of, with_triples}
 use Rattle.gs_model.specs.Limits.{last_number}
 use Rattle.gs_model.proofs.GraphLemmas.{graph_of-triples_of, triples_of-empty}
@@ -23,7 +22,7 @@ use Rattle.gs_tree.proofs.Merging.{length_merge}
 use Rattle.gs_tree.specs.Tree.{Tree, occurrences, tree_at}
 use Rattle.gs_tree.specs.Steps.{Step, BornAt}
 use Rattle.gs_tree.specs.Reading.{keys_at}
-use Rattle.gs_keys.specs.Texts.{triple_at, key_cmp, key_total}
+use Rattle.gs_keys.specs.Texts.{Terms, triple_at, key_cmp, key_total}
 use Rattle.gs_keys.specs.Roots.{graph_of_root}
 use Rattle.gs_changes.specs.Changes.{ChangesAt}
 use Rattle.gs_changes.proofs.AddLemmas.{few_keys}
@@ -64,7 +63,7 @@ use Rattle.gs_tree_store.proofs.BornLemmas.{born_nodes, born_then, set_bears}
 use Rattle.gs_tree_store.proofs.CommitLemmas.{version_or, tree_of_target, same_dead, apart_ledger, roots_same, still_version}
 
 -- a change of the tree of a version that can have a draft is one
-pub drafted : (birth : ℕ) (terms grown : List Term) (p q : Nodes) (old v : GraphVersion) (g : Graph) (added removed most : ℕ) → CanDraft birth terms p old → IsParted p → ChangesAt (key_cmp grown) birth p q old.root v.root added removed → IsStaged grown q v.root
+pub drafted : (birth : ℕ) (terms grown : Terms) (p q : Nodes) (old v : GraphVersion) (g : Graph) (added removed most : ℕ) → CanDraft birth terms p old → IsParted p → ChangesAt (key_cmp grown) birth p q old.root v.root added removed → IsStaged grown q v.root
     → v.triples + removed ≡ old.triples + added → graph_of_root grown q v.root ≡ g → 256 * added + 193 * removed ≤ most → Drafts birth grown p q old v g most
 drafted birth terms grown p q old v g added removed most can parted c staged count graph few =
     let t = tree_at p old.root in
@@ -84,7 +83,7 @@ drafted birth terms grown p q old v g added removed most can parted c staged cou
       few = omega (arith, few, c.exact, c.few, can.none_aside);
     }
 
-united_if : (terms : List Term) (p : Nodes) (o : Option GraphVersion) (g : Graph) → united (option_map (version_graph terms p) o) g ≡ with_triples (graph_of_root terms p (unwrap_or o empty_version).root) (triples_of g)
+united_if : (terms : Terms) (p : Nodes) (o : Option GraphVersion) (g : Graph) → united (option_map (version_graph terms p) o) g ≡ with_triples (graph_of_root terms p (unwrap_or o empty_version).root) (triples_of g)
 united_if terms p None g = sym (graph_of-triples_of g) ∙ sym (ap (λ xs. graph_of (xs ++ triples_of g)) triples_of-empty)
 united_if terms p (Some v) g = refl
 
@@ -145,21 +144,19 @@ module _ (b : Books) (d : Numbered) (q r : Nodes) (w : Pins) (c : Recorded) (wri
     same_draft : version_tree r v ≡ version_tree q v
     same_draft = roots_same q r nodes v.root
 
-    sets : SetsOne b.dict.terms grows.more b.pool r (graphs_of b) t v
-    sets = one_is_set b.dict.terms grows.more b.pool r (graphs_of b) t v sound.versions same_others (subst (λ ts. IsVersion ts r v) grows.terms (still_version d.terms q r v same_draft made.version))
+    sets : SetsOne b.dict.terms d.terms b.pool r (graphs_of b) t v
+    sets = one_is_set b.dict.terms d.terms grows.terms b.pool r (graphs_of b) t v sound.versions same_others (still_version d.terms q r v same_draft made.version)
 
     pub kept_dataset : dataset_of (with_draft b d r w c write) ≡ with_graph (dataset_of b) t g
     kept_dataset =
         ap (dataset_at d.terms r) written
-        ∙ ap (λ ts. dataset_at ts r (with_version (graphs_of b) t v)) grows.terms
         ∙ sets.dataset
-        ∙ ap (λ ts. with_graph (dataset_of b) t (version_graph ts r v)) (sym grows.terms)
         ∙ ap (λ u. with_graph (dataset_of b) t (tree_graph d.terms u)) same_draft
         ∙ ap (with_graph (dataset_of b) t) made.graph
 
     pub kept_sound : IsSound (with_draft b d r w c write)
     kept_sound = record {
-      versions = subst (λ ts. All (IsVersion ts r) (all_versions (current c.records))) (sym grows.terms) (subst (λ g. All (IsVersion (b.dict.terms ++ grows.more) r) (all_versions g)) (sym written) sets.versions);
+      versions = subst (λ g. All (IsVersion d.terms r) (all_versions g)) (sym written) sets.versions;
       none_aside = none;
       commit = omega (arith, ap (λ (x : Pins). x.commit) commit, number);
       latest = latest.latest ∙ born ∙ sym (ap (λ (x : Pins). x.commit) commit);
@@ -211,7 +208,7 @@ united_made birth d p q old ks root added distinct can parted is c keys_are =
     (omega (arith, few, c.counted))
 
 -- the operations of an update on a version
-pub patched_made : (birth : ℕ) (terms grown : List Term) (p q : Nodes) (old : GraphVersion) (ops : List Op) (x : Draft) (n : ℕ) → CanDraft birth terms p old → IsParted p → Patches birth terms grown p q old.root ops x → n + x.removed ≡ old.triples + x.added
+pub patched_made : (birth : ℕ) (terms grown : Terms) (p q : Nodes) (old : GraphVersion) (ops : List Op) (x : Draft) (n : ℕ) → CanDraft birth terms p old → IsParted p → Patches birth terms grown p q old.root ops x → n + x.removed ≡ old.triples + x.added
     → Drafts birth grown p q old (record { root = x.root; triples = n }) (updated (graph_of_root terms p old.root) ops) (259 * inserted_by (graph_of_root terms p old.root) ops + 261 * removed_by (graph_of_root terms p old.root) ops)
 patched_made birth terms grown p q old ops x n can parted is count =
     drafted birth terms grown p q old (record { root = x.root; triples = n }) (updated (graph_of_root terms p old.root) ops) x.added x.removed (259 * inserted_by (graph_of_root terms p old.root) ops + 261 * removed_by (graph_of_root terms p old.root) ops) can parted is.changes is.staged count is.graph

@@ -29,7 +29,7 @@ use Rattle.gs_tree_store.specs.Actions.{Acts, GoesOn}
 use Rattle.gs_tree_store.specs.Kept.{IsKept}
 use Rattle.gs_tree_store.proofs.PlaceLemmas.{map_beside, pins_long, pin_at, some_of}
 use Rattle.gs_tree_store.proofs.OpenedLemmas.{own_open, have_after}
-use Rattle.gs_tree_store.proofs.ShownLemmas.{Outlives, outlives_more, reads_same, KeepsSeat, same_upload, same_read, keeps_seat, seat_stays, shown_stays, pin_is}
+use Rattle.gs_tree_store.proofs.ShownLemmas.{Outlives, outlives_kept, reads_same, KeepsSeat, same_upload, same_read, keeps_seat, seat_stays, shown_stays, pin_is}
 
 same_dead : (ds : List Dead) → AreSameDead ds ds
 same_dead ds = record { sums = λ f. refl; each = λ k d h. Contains-get_or ds k d h }
@@ -91,9 +91,9 @@ module _ (a b : Inside) (s : ℕ) (was now : Seat) (action : Action) (answer : A
   pub goes_on : GoesOn a.books b.books s was now action answer (set (uploads_of a) s leaf) (reads_of a)
   goes_on = acts.ledgers (set (uploads_of a) s leaf) (reads_of a) (ledger_at a s was kept within is)
 
-  -- terms are as before, and more
+  -- each number that has a term keeps it
   outlives : Outlives a.books.dict.terms b.books.dict.terms
-  outlives = outlives_more a.books.dict.terms acts.grows.more b.books.dict.terms acts.grows.terms
+  outlives = outlives_kept a.books.dict.terms b.books.dict.terms acts.grows.terms
 
   -- so the other seats keep their trees, with an idle seat in the place of the one that acted,
   beside_at : (k : ℕ) (d : Seat) → k < length (set a.seats.items s Idle) → KeepsSeat a.books.pool b.books.pool a.books.records b.books.records (get_or (set a.seats.items s Idle) k d)

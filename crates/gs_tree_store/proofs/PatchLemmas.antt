@@ -3,7 +3,6 @@ use Rattle.std.proofs.Common.{◌≡◌, ◌+◌, ◌*◌, ◌<◌, ◌⊎◌, �
 use Rattle.std.specs.declared.alloc.Global.{Global}
 use Rattle.std.specs.declared.vec.Vec.{Vec}
 use Rattle.std.proofs.lemmas.List.{set-get_or}
-use Rattle.gs_model.specs.Terms.{Term}
 use Rattle.gs_model.specs.Graphs.{Graph, size_of}
 use Rattle.gs_model.specs.Limits.{last_number}
 use Rattle.gs_model.specs.declared.refusals.Refusal.TheVariants.{LastNumber as NoNumber, NoMemory}
@@ -30,6 +29,7 @@ use Rattle.gs_event.proofs.VerdictLemmas.{store_must}
 use Rattle.gs_dict.specs.Numbering.{Numbered}
 use Rattle.gs_pool.specs.Pool.{Nodes, in_use, aside_count}
 use Rattle.gs_tree.specs.Tree.{leaf, tree_at}
+use Rattle.gs_keys.specs.Texts.{Terms}
 use Rattle.gs_keys.specs.Roots.{graph_of_root}
 use Rattle.gs_changes.specs.Endings.{Restores, UndoesAll}
 use Rattle.gs_staging.specs.Keys.{Grows}
@@ -89,7 +89,7 @@ draft_undone birth b d q r t ops v made undoes = undoes b.pool (tree_at b.pool (
 abbrev pub DecidesPatch : Books → Target → List Op → Verdict → Type 0
 DecidesPatch b t ops verdict = DecidesChange (books_setting b) (dataset_of b) b.versions.commit t (patched (graph_of_target (dataset_of b) t) ops) verdict
 
-there_if : (terms : List Term) (p : Nodes) (o : Option GraphVersion) → is_some (option_map (version_graph terms p) o) ≡ true → option_map (version_graph terms p) o ≡ Some (graph_of_root terms p (unwrap_or o empty_version).root)
+there_if : (terms : Terms) (p : Nodes) (o : Option GraphVersion) → is_some (option_map (version_graph terms p) o) ≡ true → option_map (version_graph terms p) o ≡ Some (graph_of_root terms p (unwrap_or o empty_version).root)
 there_if terms p None there = absurd (true≢false (sym there))
 there_if terms p (Some v) there = refl
 

@@ -1,13 +1,14 @@
 -- What a Reclaim keeps of the whole store.
 use Rattle.std.proofs.Common.{◌≡◌, ℕ, ◌+◌, ◌-◌, ◌<◌, Bool, ◌||◌, List, [], map, length, get_or, Option, None, refl, sym, ap, ◌∙◌, subst, inl, inr, arith, true≢false}
 use Rattle.std.specs.List.{All}
-use Rattle.std.proofs.lemmas.List.{append-nil, length-map, get_or_default, get_or-map}
+use Rattle.std.proofs.lemmas.List.{length-map, get_or_default, get_or-map}
 use Rattle.gs_event.specs.declared.events.Event.TheVariants.{Reclaim}
 use Rattle.gs_event.specs.declared.answers.Answer.TheVariants.{Reclaimed}
 use Rattle.gs_event.specs.Births.{births_at, staged_births}
 use Rattle.gs_event.specs.Born.{HasSameBirths}
 use Rattle.gs_event.specs.Waste.{Lifetime, Shown}
 use Rattle.gs_event.specs.Steps.{Frees, Steps}
+use Rattle.gs_dict.proofs.NumberLemmas.{keep_same}
 use Rattle.gs_pool.specs.Pool.{Nodes, aside_count}
 use Rattle.gs_tree.specs.Tree.{leaf}
 use Rattle.gs_ledger.specs.Entries.{tree_births}
@@ -62,18 +63,18 @@ module _ (a : Inside) (q : Nodes) (kept : IsKept a) (ledgers : KeepsLedgers a.bo
   gone_on = ledgers (graph_trees a.books.pool (graphs_of a.books)) (uploads_of a) (reads_of a) kept.ledger
 
   -- versions have the trees that they had
-  graphs_kept : KeepsDataset a.books.dict.terms [] a.books.pool q (graphs_of a.books)
+  graphs_kept : KeepsDataset a.books.dict.terms a.books.dict.terms a.books.pool q (graphs_of a.books)
   graphs_kept =
       let terms = a.books.dict.terms in
       let p = a.books.pool in
       let g = graphs_of a.books in
-      all_stay terms [] p q g kept.sound.versions (graphs_stay terms p q g a.books.versions (uploads_of a) (reads_of a) (dead_at q) kept.sound.versions gone_on)
+      all_stay terms terms (keep_same terms) p q g kept.sound.versions (graphs_stay terms p q g a.books.versions (uploads_of a) (reads_of a) (dead_at q) kept.sound.versions gone_on)
 
   versions_kept : All (IsVersion a.books.dict.terms q) (all_versions (graphs_of a.books))
-  versions_kept = subst (λ ts. All (IsVersion ts q) (all_versions (graphs_of a.books))) (append-nil a.books.dict.terms) graphs_kept.versions
+  versions_kept = graphs_kept.versions
 
   dataset_kept : dataset_at a.books.dict.terms q (graphs_of a.books) ≡ dataset_at a.books.dict.terms a.books.pool (graphs_of a.books)
-  dataset_kept = subst (λ ts. dataset_at ts q (graphs_of a.books) ≡ dataset_at a.books.dict.terms a.books.pool (graphs_of a.books)) (append-nil a.books.dict.terms) graphs_kept.dataset
+  dataset_kept = graphs_kept.dataset
 
   -- the books are sound with the other pool
   sound_kept : aside_count q ≡ 0 → IsSound (with_pool a q).books

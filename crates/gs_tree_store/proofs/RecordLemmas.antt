@@ -6,7 +6,6 @@ use Rattle.std.specs.List.{All}
 use Rattle.std.specs.FinMap as fin
 use Rattle.std.proofs.lemmas.List.Elements.{All-head, All-nil, All-cons}
 use Rattle.std.proofs.lemmas.List.Sums.{sum_by-append}
-use Rattle.gs_model.specs.Terms.{Term}
 use Rattle.gs_model.specs.Graphs.{Graph, size_of}
 use Rattle.gs_model.specs.Limits.{last_number}
 use Rattle.gs_term.specs.declared.names.Target.{Target}
@@ -33,6 +32,7 @@ use Rattle.gs_event.proofs.NameLemmas.{new_name-is_least}
 use Rattle.gs_event.proofs.VerdictLemmas.{made_well}
 use Rattle.gs_pool.specs.Pool.{Nodes}
 use Rattle.gs_tree.specs.Tree.{Tree, leaf, fork, root_of, keys}
+use Rattle.gs_keys.specs.Texts.{Terms}
 use Rattle.gs_catalogue.specs.declared.versions.GraphVersion.{GraphVersion}
 use Rattle.gs_catalogue.specs.Catalogues.{GraphVersions, version_at, with_version}
 use Rattle.gs_records.specs.Records.{Recorded, unused}
@@ -55,7 +55,7 @@ no_top leaf = refl
 no_top (fork id birth l k r) = sym (ne_eqb (length (keys l ++ k ∷ keys r)) 0 (λ e. omega (arith, length-append (keys l) (k ∷ keys r))))
 
 -- no record is kept of the version of a default graph where the graph is empty, and only there
-pub nothing_is : (terms : List Term) (p : Nodes) (v : GraphVersion) → IsVersion terms p v → is_nothing Default v ≡ nat_eq (size_of (version_graph terms p v)) 0
+pub nothing_is : (terms : Terms) (p : Nodes) (v : GraphVersion) → IsVersion terms p v → is_nothing Default v ≡ nat_eq (size_of (version_graph terms p v)) 0
 nothing_is terms p v is =
     (λ i. is_none (sym is.root_is i) && nat_eq (is.counted i) 0)
     ∙ no_top (version_tree p v)

@@ -1,7 +1,6 @@
 -- What the actions of a seat share: what they show where no graph changes, and the ledger at the place of a seat.
 use Rattle.std.proofs.Common.{◌≡◌, ℕ, ◌+◌, ◌<◌, ◌≤◌, false, List, [], ◌∷◌, length, get_or, set, Option, Some, None, is_some, refl, sym, ap, subst, ◌∙◌, arith, add-zero}
 use Rattle.std.proofs.lemmas.List.{set-get_or, length-set, get_or-set_same}
-use Rattle.std.specs.List.{All}
 use Rattle.gs_model.specs.Limits.{last_number}
 use Rattle.gs_dict.specs.Numbering.{Numbered}
 use Rattle.gs_pool.specs.Pool.{Nodes, aside_count}
@@ -11,7 +10,7 @@ use Rattle.gs_versions.specs.Pins.{Pins, with_pin}
 use Rattle.gs_ledger.specs.Marks.{dead_at}
 use Rattle.gs_ledger.specs.Ledger.{IsReadAt}
 use Rattle.gs_ledger.proofs.PinSteps.{each_seat}
-use Rattle.gs_datasets.specs.Standing.{dataset_at, all_versions, graph_trees, IsVersion, AreSameIn}
+use Rattle.gs_datasets.specs.Standing.{all_versions, graph_trees, AreSameIn}
 use Rattle.gs_datasets.proofs.Writing.{all_stay}
 use Rattle.gs_tree_store.specs.declared.books.Books.{Books}
 use Rattle.gs_tree_store.specs.declared.books.Seat.{Seat}
@@ -42,17 +41,17 @@ pub record SameGraphs (b c : Books) : Type 0 where
   pub trees : graph_trees c.pool (graphs_of c) ≡ graph_trees b.pool (graphs_of b)
   pub sound : IsSound c
 
--- that is so where there are more terms, and each version has the tree that it had
+-- that is so where each number that has a term keeps it, and each version has the tree that it had
 pub same_graphs : (b : Books) (d : Numbered) (q : Nodes) (w : Pins) → IsSound b → Grows b.dict d → AreSameIn b.pool q (all_versions (graphs_of b)) → aside_count q ≡ 0 → w.commit ≡ b.versions.commit
     → SameGraphs b (record b { dict = d; pool = q; versions = w })
 same_graphs b d q w sound grows same none commit =
     let g = graphs_of b in
-    let kept = all_stay b.dict.terms grows.more b.pool q g sound.versions same in
+    let kept = all_stay b.dict.terms d.terms grows.terms b.pool q g sound.versions same in
     record {
-      dataset = ap (λ ts. dataset_at ts q g) grows.terms ∙ kept.dataset;
+      dataset = kept.dataset;
       trees = kept.trees;
       sound = record {
-        versions = subst (λ ts. All (IsVersion ts q) (all_versions g)) (sym grows.terms) kept.versions;
+        versions = kept.versions;
         none_aside = none;
         commit = subst (λ n. n ≤ last_number) (sym commit) sound.commit;
         latest = sound.latest ∙ sym commit;

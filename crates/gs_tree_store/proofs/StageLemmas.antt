@@ -48,7 +48,7 @@ few_triples b seat k r birth v o since d q ts m writes small stages =
     subst (λ x. IsReadyAny b x → v.triples + m.added < 2 ^ 32) (sym writes)
     (λ (any : IsReadyAny b (Writing k r v o since)). few_here b any.number k r birth v o since d q ts m small stages any.ready)
 
--- a piece that was refused: there may be more terms
+-- a piece that was refused: there may be new terms
 refused_here : (b : Books) (s : ℕ) (k : UploadKind) (r : ℕ) (v : GraphVersion) (o : ℕ) (since : Option ℕ) (ts : Listed) (d : Numbered) → Grows b.dict d → IsReady b s (Writing k r v o since)
     → Acts b (record b { dict = d }) s (Writing k r v o since) (Writing k r v o since) (Stage ts) (Refused NoMemory)
 refused_here b s k r v o since ts d grows ready =
@@ -56,7 +56,7 @@ refused_here b s k r v o since ts d grows ready =
     let p = b.pool in
     let tree = tree_at p v.root in
     let kept = same_graphs b d p b.versions ready.sound grows (λ j w h. refl) ready.sound.none_aside refl in
-    let outlasts : Outlasts terms d.terms tree = subst (λ xs. Outlasts terms xs tree) (sym grows.terms) (keys_outlast terms grows.more tree ready.known.keyed) in
+    let outlasts : Outlasts terms d.terms tree = keys_outlast terms d.terms grows.terms tree ready.known.keyed in
     record {
       fits = tt;
       totals = same_totals b (record b { dict = d }) refl kept.dataset refl refl refl;

@@ -1,4 +1,4 @@
--- A draft that was given up: the books are as they were, but that there may be more terms.
+-- A draft that was given up: the books are as they were, but that there may be new terms.
 use Rattle.std.proofs.Common.{◌≡◌, ◌+◌, ℕ, false, set, List, [], ◌∷◌, map, length, get_or, None, refl, sym, ap, subst, ◌∙◌, true≢false}
 use Rattle.std.proofs.lemmas.List.{set-get_or}
 use Rattle.gs_event.specs.declared.events.Action.{Action}
@@ -53,7 +53,7 @@ module _ (b : Books) (d : Numbered) (q : Nodes) (grows : Grows b.dict d) (restor
 
   module _ (v : GraphVersion) (is : IsVersion b.dict.terms b.pool v) where
     outlasts : Outlasts b.dict.terms d.terms (tree_at b.pool v.root)
-    outlasts = subst (λ ts. Outlasts b.dict.terms ts (tree_at b.pool v.root)) (sym grows.terms) (keys_outlast b.dict.terms grows.more (tree_at b.pool v.root) is.keyed)
+    outlasts = keys_outlast b.dict.terms d.terms grows.terms (tree_at b.pool v.root) is.keyed
 
     graph_same : graph_of_root d.terms q v.root ≡ graph_of_root b.dict.terms b.pool v.root
     graph_same = ap (tree_graph d.terms) (same.roots v.root) ∙ outlasts.same

@@ -5,7 +5,6 @@ use Rattle.std.specs.FinMap as fin
 use Rattle.std.proofs.lemmas.List.{length-map}
 use Rattle.std.proofs.lemmas.List.Elements.{All-head, All-tail}
 use Rattle.std.proofs.lemmas.List.Sums.{sum_by-cons}
-use Rattle.gs_model.specs.Terms.{Term}
 use Rattle.gs_model.specs.Graphs.{Graph, size_of}
 use Rattle.gs_term.specs.declared.names.Target.{Target}
 use Rattle.gs_term.specs.declared.names.Target.TheVariants.{Named}
@@ -18,7 +17,7 @@ use Rattle.gs_event.proofs.VerdictLemmas.{made_well}
 use Rattle.gs_event.proofs.NameLemmas.{new_name-is_least}
 use Rattle.gs_pool.specs.Pool.{Nodes, in_use}
 use Rattle.gs_tree.specs.Tree.{Tree, keys}
-use Rattle.gs_keys.specs.Texts.{triple_at}
+use Rattle.gs_keys.specs.Texts.{Terms, triple_at}
 use Rattle.gs_keys.specs.Roots.{graph_of_root}
 use Rattle.gs_keys.proofs.KeyLemmas.{triples_of_keys}
 use Rattle.gs_catalogue.specs.declared.versions.GraphVersion.{GraphVersion}
@@ -33,7 +32,7 @@ use Rattle.gs_tree_store.specs.declared.books.Books.{Books}
 use Rattle.gs_tree_store.specs.Books.{graphs_of, dataset_of, IsFound, IsSound}
 use Rattle.gs_tree_store.specs.Verdicts.{place_by, HasCounts}
 
-module _ (terms : List Term) (p : Nodes) where
+module _ (terms : Terms) (p : Nodes) where
   keys_counted : (es : List (List ℕ × GraphVersion)) → All (IsVersion terms p) (map (λ e. e.1) es)
       → keys_in (map (version_tree p) (map (λ e. e.1) es)) ≡ sum_by (λ e. e.1.triples) es
   keys_counted [] all = refl

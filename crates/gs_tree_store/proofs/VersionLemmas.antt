@@ -4,11 +4,11 @@ use Rattle.std.specs.List.{All, AllByRecursion}
 use Rattle.std.proofs.lemmas.Bool.{cases_Bool}
 use Rattle.std.proofs.lemmas.List.Elements.{All-head, All-tail, recursion_from_All}
 use Rattle.std.proofs.lemmas.Map.Views.{exact_unsigned_eq}
-use Rattle.gs_model.specs.Terms.{Term}
 use Rattle.gs_term.specs.declared.names.Target.{Target}
 use Rattle.gs_pool.specs.Pool.{Nodes}
 use Rattle.gs_tree.specs.Tree.{Tree, tree_at}
 use Rattle.gs_tree.proofs.Rotations.{tree_in}
+use Rattle.gs_keys.specs.Texts.{Terms}
 use Rattle.gs_catalogue.specs.declared.versions.GraphVersion.{GraphVersion}
 use Rattle.gs_index.specs.Indexes.{is_listed}
 use Rattle.gs_records.specs.Records.{Record, Recorded}
@@ -40,7 +40,7 @@ pub record KeepsVersion (p q : Nodes) (x y : Recorded) (v : ℕ) : Type 0 where
   pub trees : HasTrees v x.records p q
   pub reads : version_trees q y v ≡ version_trees p x v
 
-pub keeps_version : (terms : List Term) (p q : Nodes) (x y : Recorded) (v : ℕ) → AreListed x.records x.listed → AreListed y.records y.listed → AreGraphs terms p v x.records → HasSame v x y → All (IsMeant q) (version_trees p x v)
+pub keeps_version : (terms : Terms) (p q : Nodes) (x y : Recorded) (v : ℕ) → AreListed x.records x.listed → AreListed y.records y.listed → AreGraphs terms p v x.records → HasSame v x y → All (IsMeant q) (version_trees p x v)
     → KeepsVersion p q x y v
 keeps_version terms p q x y v al al_new graphs same there =
     let old = λ (n : ℕ). tree_at p (root_at x.records n) in

@@ -1,7 +1,6 @@
 -- What the books and the seats of a store over trees show, and what is true of them. No public clause cites this module.
 use Rattle.std.specs.Prelude.{◌≡◌, ◌+◌, ◌<◌, ◌≤◌, ℕ, Bool, true, false, List, [], ◌∷◌, length, map, Option, Some, None, string_bytes, slice_index_or, is_some}
 use Rattle.std.specs.List.{All}
-use Rattle.gs_model.specs.Terms.{Term}
 use Rattle.gs_model.specs.Bases.{is_base}
 use Rattle.gs_model.specs.Limits.{last_number, last_node}
 use Rattle.gs_term.specs.declared.names.Target.{Target}
@@ -11,6 +10,7 @@ use Rattle.gs_event.specs.Phases as phase
 use Rattle.gs_event.specs.Views.{Totals, SeatView}
 use Rattle.gs_pool.specs.Pool.{Nodes, aside_count}
 use Rattle.gs_tree.specs.Tree.{Tree, leaf, root_of, tree_at}
+use Rattle.gs_keys.specs.Texts.{Terms}
 use Rattle.gs_keys.specs.Roots.{graph_of_root}
 use Rattle.gs_lines.specs.Pieces.{lines_from, IsCursor}
 use Rattle.gs_catalogue.specs.declared.versions.GraphVersion.{GraphVersion}
@@ -55,7 +55,7 @@ totals_of b = record {
 
 -- a seat as it is seen: an upload is the graph of its tree, and a read the lines of its tree, or of all graphs of its version, after the
 -- last that was given
-abbrev pub seat_shown : List Term → Nodes → Recorded → Seat → SeatView
+abbrev pub seat_shown : Terms → Nodes → Recorded → Seat → SeatView
 seat_shown terms p rs Idle = phase.Idle
 seat_shown terms p rs (Writing k r v n since) = phase.Writing k r (graph_of_root terms p v.root) since
 seat_shown terms p rs (Patching t r n since) = phase.Patching t r since
@@ -87,19 +87,19 @@ is_reading (Reading root last) = true
 is_reading (ReadingAll v last) = true
 is_reading s = false
 
--- a root and the last key given of it: the root means a tree in order, and the key's numbers were given
-pub record IsReadFrom (terms : List Term) (p : Nodes) (root : Option ℕ) (last : Option Rattle.gs_pool.specs.declared.nodes.Key.Key) : Type 0 where
+-- a root and the last key given of it: the root means a tree in order, and the key's numbers have terms
+pub record IsReadFrom (terms : Terms) (p : Nodes) (root : Option ℕ) (last : Option Rattle.gs_pool.specs.declared.nodes.Key.Key) : Type 0 where
   pub root_is : root_of (tree_at p root) ≡ root
   pub keyed : IsKeyed terms (tree_at p root)
   pub given : IsCursor terms last
 
 -- version v has graphs, and the place is one of it
-pub record IsReadOfAll (terms : List Term) (p : Nodes) (rs : Recorded) (v : ℕ) (last : Option Place) : Type 0 where
+pub record IsReadOfAll (terms : Terms) (p : Nodes) (rs : Recorded) (v : ℕ) (last : Option Place) : Type 0 where
   pub graphs : AreGraphs terms p v rs.records
   pub place : IsQuadPlace terms v rs.records last
 
 -- what is true of a seat: its upload is the version of a graph, and its read one of such a tree, or of all graphs of a version
-abbrev pub IsSeat : List Term → Nodes → Recorded → Seat → Type 0
+abbrev pub IsSeat : Terms → Nodes → Recorded → Seat → Type 0
 IsSeat terms p rs (Writing k r v n since) = IsVersion terms p v
 IsSeat terms p rs (Reading root last) = IsReadFrom terms p root last
 IsSeat terms p rs (ReadingAll v last) = IsReadOfAll terms p rs v last
