@@ -19,8 +19,8 @@ use Rattle.gs_stream.proofs.PartLemmas.{IsParted, through-parts}
 use Rattle.gs_stream.proofs.RequestLemmas.{reads-on}
 use Rattle.gs_stream.proofs.StaysLemmas.{heads-stay, long-stays}
 use Rattle.gs_talk.specs.Plans.{plan_of}
-use Rattle.gs_talk.specs.Courses.{Move, Short, Course, Fresh, Early, Memory, Mute}
-use Rattle.gs_talk.specs.Moves.{course_after, course}
+use Rattle.gs_talk.specs.Progress.{Move, Short, Progress, NotStarted, Early, Memory, Mute}
+use Rattle.gs_talk.specs.Moves.{progress_after, progress}
 use Rattle.gs_talk.specs.Seats.{Deeds}
 use Rattle.gs_talk.specs.Replies.{BodyState, Faulty, Unended, Said, IsOwn, Settles, said_so_far, greeting, allow_notice, denial_reply, plain, data_of}
 use Rattle.gs_talk.specs.Replies as state
@@ -169,9 +169,9 @@ AsksOn s a b c = (y : List ℕ) → requests s.base (b ++ y) ≡ by_body (reques
 
 -- it is served, and nothing was done yet
 served : {s : Server} {e : Bool} (a : Asked) (k : Work) (u b c x : List ℕ) (h : Deeds) (said : List ℕ) (l : LeadsTo s e Between b x h said)
-    → AsksOn s a b c → u ≡ said_so_far a Fresh → WorkStands s.base a k (first_trail a Fresh) 0 → LeadsTo s e (Serving a k) c x h (said ++ u)
+    → AsksOn s a b c → u ≡ said_so_far a NotStarted → WorkStands s.base a k (first_trail a NotStarted) 0 → LeadsTo s e (Serving a k) c x h (said ++ u)
 served {s} {e} a k u b c x h said l f g j = record {
-  trail = first_trail a Fresh;
+  trail = first_trail a NotStarted;
   log = l.log;
   now = [];
   text = u;
@@ -186,24 +186,24 @@ served {s} {e} a k u b c x h said l f g j = record {
 pub begins_open : {s : Server} {e : Bool} (a : Asked) (b c x : List ℕ) (h : Deeds) (said : List ℕ) (l : LeadsTo s e Between b x h said)
     → AsksOn s a b c → (n : Next) → BeginsOpen a n → LeadsTo s e n.phase c x h (said ++ n.said.items)
 begins_open a b c x h said l f n o =
-    to_next n (Serving a Opening) [] c x h said o.1 (served a Opening [] b c x h said l f (sym (unsaid a Fresh refl o.0)) (refl, o.0, λ z. refl, refl))
+    to_next n (Serving a Opening) [] c x h said o.1 (served a Opening [] b c x h said l f (sym (unsaid a NotStarted refl o.0)) (refl, o.0, λ z. refl, refl))
 
 -- or its body is to be dropped
 pub begins_skip : {s : Server} {e : Bool} (a : Asked) (b c x : List ℕ) (h : Deeds) (said : List ℕ) (l : LeadsTo s e Between b x h said)
     → AsksOn s a b c → (n : Next) → BeginsSkip a n → LeadsTo s e n.phase c x h (said ++ n.said.items)
 begins_skip a b c x h said l f n o =
     to_next n (Serving a (Skipping o.1.0)) (greeting_of a) c x h said o.1.1
-    (served a (Skipping o.1.0) (greeting_of a) b c x h said l f (sym (greeted_skip a Fresh refl o.0)) ([], refl, o.0, λ z. sym (o.1.2 z) ∙ none_of (cut_of o.1.0 z)))
+    (served a (Skipping o.1.0) (greeting_of a) b c x h said l f (sym (greeted_skip a NotStarted refl o.0)) ([], refl, o.0, λ z. sym (o.1.2 z) ∙ none_of (cut_of o.1.0 z)))
 
 -- whatever its body is, these moves answer it
-answers_early : (s : Server) (a : Asked) (o : BodyState) (ms : List Move) (c : Course) (v : List ℕ) → course a Fresh ms ≡ c → AllSuit s.piece (plan_of a) ms → stages_in ms ≡ 0
+answers_early : (s : Server) (a : Asked) (o : BodyState) (ms : List Move) (c : Progress) (v : List ℕ) → progress a NotStarted ms ≡ c → AllSuit s.piece (plan_of a) ms → stages_in ms ≡ 0
     → IsOwn s.base a o c → Settles s.base a o c (v, false) → greeting a c ≡ [] → AnswersAsk s a o ms (v, false)
 answers_early s a o ms c v is suit few own set quiet = (
-  (suit, subst (λ (d : Course). IsOwn s.base a o d) (sym is) own, omega (arith, few)),
+  (suit, subst (λ (d : Progress). IsOwn s.base a o d) (sym is) own, omega (arith, few)),
   (
     (v, false),
-    subst (λ (d : Course). Settles s.base a o d (v, false)) (sym is) set,
-    inl (ap (λ (z : List ℕ). (z ++ v, false)) (sym quiet) ∙ ap (λ (d : Course). (greeting a d ++ v, false)) (sym is)),
+    subst (λ (d : Progress). Settles s.base a o d (v, false)) (sym is) set,
+    inl (ap (λ (z : List ℕ). (z ++ v, false)) (sym quiet) ∙ ap (λ (d : Progress). (greeting a d ++ v, false)) (sym is)),
   ),
 )
 
@@ -236,7 +236,7 @@ asked_short {s} a b c x h said l f n (inl o) =
 asked_short {s} a b c x h said l f n (inr o) =
     to_next n Over [] c x h said o
     (unheard a (Short ∷ Short ∷ []) [] b c x h said l f
-    (λ o. answers_early s a o (Short ∷ Short ∷ []) (Mute (Early Memory)) [] (ap (λ (d : Course). course_after a d Short) (early_is a (plan_of a))) tt refl tt (((reply_text 503 Nothing None true, false), refl), refl)
+    (λ o. answers_early s a o (Short ∷ Short ∷ []) (Mute (Early Memory)) [] (ap (λ (d : Progress). progress_after a d Short) (early_is a (plan_of a))) tt refl tt (((reply_text 503 Nothing None true, false), refl), refl)
     (quiet a.awaits_continue)) refl)
 
 -- What a verdict leads to.

@@ -2,8 +2,8 @@
 use Rattle.std.proofs.Common.{◌≡◌, ℕ, Bool, true, false, cond, List, [], ◌∷◌, ◌++◌, refl, sym, subst, append-nil}
 use Rattle.gs_verdict.specs.declared.verdicts.Asked.{Asked}
 use Rattle.gs_stream.specs.Requests.{Request, Denied, Asks, Breaks, Waits, requests}
-use Rattle.gs_talk.specs.Courses.{Move, Course, Fresh, Early, Late, Dropped, Wrote, Patched, Erased, Looked, Missing, Held, Cutting, Cut, Left, Mute, Misanswered, Memory, Numbers}
-use Rattle.gs_talk.specs.Moves.{course}
+use Rattle.gs_talk.specs.Progress.{Move, Progress, NotStarted, Early, Late, Dropped, Wrote, Patched, Erased, Looked, Missing, Streaming, CancelDue, Cut, Left, Mute, Misanswered, Memory, Numbers}
+use Rattle.gs_talk.specs.Moves.{progress}
 use Rattle.gs_talk.specs.Seats.{Deeds}
 use Rattle.gs_talk.specs.Replies.{Unended, Said, IsOwn, Settles}
 use Rattle.gs_talk.specs.Logs.{Server, Log, Answered, AnswersAll}
@@ -30,22 +30,22 @@ starts s b said f g = record {
 
 -- the end of the input
 
-own_ends : (base : List ℕ) (a : Asked) (front : List ℕ) (c : Course) → IsOwn base a (Unended front false) c → IsOwn base a (Unended front true) c
+own_ends : (base : List ℕ) (a : Asked) (front : List ℕ) (c : Progress) → IsOwn base a (Unended front false) c → IsOwn base a (Unended front true) c
 own_ends base a front (Wrote r g st name number) o = absurd o
 own_ends base a front (Patched r ops st number) o = absurd o
 own_ends base a front (Erased st number) o = absurd o
 own_ends base a front (Looked st number) o = absurd o
 own_ends base a front (Missing st number) o = absurd o
-own_ends base a front (Held out due end) o = absurd o
-own_ends base a front (Cutting out) o = absurd o
+own_ends base a front (Streaming out due end) o = absurd o
+own_ends base a front (CancelDue out) o = absurd o
 own_ends base a front (Cut out) o = absurd o
 own_ends base a front (Left out) o = absurd o
 own_ends base a front (Mute c) o = own_ends base a front c o
 own_ends base a front (Misanswered c) o = own_ends base a front c o
 own_ends base a front c o = tt
 
-settles_ends : (base : List ℕ) (a : Asked) (front : List ℕ) (c : Course) (t : Said) → Settles base a (Unended front false) c t → Settles base a (Unended front true) c t
-settles_ends base a front Fresh t s = (refl, s.1, s.2)
+settles_ends : (base : List ℕ) (a : Asked) (front : List ℕ) (c : Progress) (t : Said) → Settles base a (Unended front false) c t → Settles base a (Unended front true) c t
+settles_ends base a front NotStarted t s = (refl, s.1, s.2)
 settles_ends base a front (Early Memory) t s = s
 settles_ends base a front (Early Numbers) t s = s
 settles_ends base a front (Late Memory) t s = s
@@ -56,7 +56,7 @@ settles_ends base a front (Patched r ops st number) t s = s
 settles_ends base a front (Erased st number) t s = s
 settles_ends base a front (Looked st number) t s = s
 settles_ends base a front (Missing st number) t s = s
-settles_ends base a front (Held out due true) t s = s
+settles_ends base a front (Streaming out due true) t s = s
 settles_ends base a front (Cut out) t s = s
 settles_ends base a front (Mute c) t s = ((s.0.0, settles_ends base a front c s.0.0 s.0.1), s.1)
 settles_ends base a front (Misanswered c) t s = s
@@ -69,7 +69,7 @@ answered_ends s false (Denied d) ms t k = k
 answered_ends s false (Asks a body) ms t k = k
 answered_ends s false (Breaks a front st) ms t k = k
 answered_ends s false (Waits a front) ms t k =
-    ((k.0.0, own_ends s.base a front (course a Fresh ms) k.0.1, k.0.2), (k.1.0, settles_ends s.base a front (course a Fresh ms) k.1.0 k.1.1, k.1.2))
+    ((k.0.0, own_ends s.base a front (progress a NotStarted ms) k.0.1, k.0.2), (k.1.0, settles_ends s.base a front (progress a NotStarted ms) k.1.0 k.1.1, k.1.2))
 
 log_ends : (s : Server) (e : Bool) (log : Log) (rs rest : List Request) → AnswersAll s e log rs rest → AnswersAll s true log rs rest
 log_ends s e [] rs rest k = k

@@ -7,8 +7,8 @@ use Rattle.gs_transfer.specs.Cuts as cut
 use Rattle.gs_verdict.specs.declared.verdicts.Asked.{Asked}
 use Rattle.gs_stream.specs.Requests.{Request, by_body, by_end, requests}
 use Rattle.gs_talk.specs.Plans.{Plan, plan_of}
-use Rattle.gs_talk.specs.Courses.{Move, Did, Short, Course, Fresh}
-use Rattle.gs_talk.specs.Moves.{course_after, course}
+use Rattle.gs_talk.specs.Progress.{Move, Did, Short, Progress, NotStarted}
+use Rattle.gs_talk.specs.Moves.{progress_after, progress}
 use Rattle.gs_talk.specs.Seats.{Deeds}
 use Rattle.gs_talk.specs.Replies.{BodyState, Whole, Faulty, Unended, IsOwn, Settles, said_so_far, greeting, data_of}
 use Rattle.gs_talk.specs.Logs.{Server, Entry, Log, AllSuit, AnswersAsk, AnswersAll, deed_of, deeds_of, deeds, texts, stages_in}
@@ -21,9 +21,9 @@ use Rattle.gs_session.specs.Leads.{LeadsTo, MayCome, IsShut}
 
 -- moves
 
-pub course-append : (a : Asked) (c : Course) (ms ns : List Move) → course a c (ms ++ ns) ≡ course a (course a c ms) ns
-course-append a c [] ns = refl
-course-append a c (m ∷ ms) ns = course-append a (course_after a c m) ms ns
+pub progress-append : (a : Asked) (c : Progress) (ms ns : List Move) → progress a c (ms ++ ns) ≡ progress a (progress a c ms) ns
+progress-append a c [] ns = refl
+progress-append a c (m ∷ ms) ns = progress-append a (progress_after a c m) ms ns
 
 pub suit-append : (piece : ℕ) (p : Plan) (ms ns : List Move) → AllSuit piece p ms → AllSuit piece p ns → AllSuit piece p (ms ++ ns)
 suit-append piece p [] ns k j = j
@@ -51,8 +51,8 @@ silent {s} {e} p q b c x h said l t d k shut = record {
 
 -- Moves are made and a text is said, and the same request is served.
 pub moved : {s : Server} {e : Bool} (a : Asked) (k k2 : Work) (ms : List Move) (u b c x : List ℕ) (h : Deeds) (said : List ℕ) (l : LeadsTo s e (Serving a k) b x h said) (t : Trail)
-    → ((y : List ℕ) → t.cut (c ++ y) ≡ l.trail.cut (b ++ y)) → AllSuit s.piece (plan_of a) ms → course a l.trail.course ms ≡ t.course
-    → said_so_far a l.trail.course ++ u ≡ said_so_far a t.course → ((z : List ℕ) → stages_in l.now + stages_in ms ≤ length (t.cut z).bytes + 1)
+    → ((y : List ℕ) → t.cut (c ++ y) ≡ l.trail.cut (b ++ y)) → AllSuit s.piece (plan_of a) ms → progress a l.trail.progress ms ≡ t.progress
+    → said_so_far a l.trail.progress ++ u ≡ said_so_far a t.progress → ((z : List ℕ) → stages_in l.now + stages_in ms ≤ length (t.cut z).bytes + 1)
     → WorkStands s.base a k2 t (stages_in l.now + stages_in ms) → LeadsTo s e (Serving a k2) c x (h ++ deeds_of ms) (said ++ u)
 moved {s} {e} a k k2 ms u b c x h said l t d suit f g few j = record {
   trail = t;
@@ -66,7 +66,7 @@ moved {s} {e} a k k2 ms u b c x h said l t d suit f g few j = record {
   written = ap (λ z. z ++ u) l.written ∙ append_assoc (texts l.log) l.text u;
   keeps = record {
     suits = suit-append s.piece (plan_of a) l.now ms l.keeps.suits suit;
-    came = course-append a Fresh l.now ms ∙ ap (λ (v : Course). course a v ms) l.keeps.came ∙ f;
+    came = progress-append a NotStarted l.now ms ∙ ap (λ (v : Progress). progress a v ms) l.keeps.came ∙ f;
     said = ap (λ z. z ++ u) l.keeps.said ∙ g;
     few = λ z. subst (λ n. n ≤ length (t.cut z).bytes + 1) (sym (stages-append l.now ms)) (few z);
     stands = subst (λ n. WorkStands s.base a k2 t n) (sym (stages-append l.now ms)) j;
@@ -125,31 +125,31 @@ answered {s} {e} p q b c x h said l ms u goes t f k open_yet j =
     }
 
 abbrev pub none : Trail
-none = record { cut = λ z. record { bytes = []; end = cut.Open }; course = Fresh }
+none = record { cut = λ z. record { bytes = []; end = cut.Open }; progress = NotStarted }
 
--- what settles the course of a request that is served, with last moves, answers it
+-- what settles the progress of a request that is served, with last moves, answers it
 pub settles : {s : Server} {e : Bool} (a : Asked) (k : Work) (ms : List Move) (o : BodyState) (goes : Bool) (v u b x : List ℕ) (h : Deeds) (said : List ℕ) (l : LeadsTo s e (Serving a k) b x h said)
-    → AllSuit s.piece (plan_of a) ms → IsOwn s.base a o (course a l.trail.course ms) → stages_in l.now + stages_in ms ≤ length (data_of o) + 1
-    → Settles s.base a o (course a l.trail.course ms) (v, goes) → said_so_far a l.trail.course ++ u ≡ greeting a (course a l.trail.course ms) ++ v
+    → AllSuit s.piece (plan_of a) ms → IsOwn s.base a o (progress a l.trail.progress ms) → stages_in l.now + stages_in ms ≤ length (data_of o) + 1
+    → Settles s.base a o (progress a l.trail.progress ms) (v, goes) → said_so_far a l.trail.progress ++ u ≡ greeting a (progress a l.trail.progress ms) ++ v
     → AnswersAsk s a o (l.now ++ ms) (l.text ++ u, goes)
 settles {s} a k ms o goes v u b x h said l suit own few set g =
-    let is : course a Fresh (l.now ++ ms) ≡ course a l.trail.course ms = course-append a Fresh l.now ms ∙ ap (λ (c : Course). course a c ms) l.keeps.came in (
+    let is : progress a NotStarted (l.now ++ ms) ≡ progress a l.trail.progress ms = progress-append a NotStarted l.now ms ∙ ap (λ (c : Progress). progress a c ms) l.keeps.came in (
       (
         suit-append s.piece (plan_of a) l.now ms l.keeps.suits suit,
-        subst (λ (c : Course). IsOwn s.base a o c) (sym is) own,
+        subst (λ (c : Progress). IsOwn s.base a o c) (sym is) own,
         subst (λ n. n ≤ length (data_of o) + 1) (sym (stages-append l.now ms)) few,
       ),
       (
         (v, goes),
-        subst (λ (c : Course). Settles s.base a o c (v, goes)) (sym is) set,
-        inl (ap (λ (z : List ℕ). (z, goes)) (ap (λ z. z ++ u) l.keeps.said ∙ g) ∙ ap (λ (c : Course). (greeting a c ++ v, goes)) (sym is)),
+        subst (λ (c : Progress). Settles s.base a o c (v, goes)) (sym is) set,
+        inl (ap (λ (z : List ℕ). (z, goes)) (ap (λ z. z ++ u) l.keeps.said ∙ g) ∙ ap (λ (c : Progress). (greeting a c ++ v, goes)) (sym is)),
       ),
     )
 
 -- The connection ends after the reply, whatever the body is.
 pub ends : {s : Server} {e : Bool} (a : Asked) (k : Work) (ms : List Move) (v u b c x : List ℕ) (h : Deeds) (said : List ℕ) (l : LeadsTo s e (Serving a k) b x h said)
-    → AllSuit s.piece (plan_of a) ms → ((o : BodyState) → IsOwn s.base a o (course a l.trail.course ms)) → ((z : List ℕ) → stages_in l.now + stages_in ms ≤ length (l.trail.cut z).bytes + 1)
-    → ((o : BodyState) → Settles s.base a o (course a l.trail.course ms) (v, false)) → said_so_far a l.trail.course ++ u ≡ greeting a (course a l.trail.course ms) ++ v
+    → AllSuit s.piece (plan_of a) ms → ((o : BodyState) → IsOwn s.base a o (progress a l.trail.progress ms)) → ((z : List ℕ) → stages_in l.now + stages_in ms ≤ length (l.trail.cut z).bytes + 1)
+    → ((o : BodyState) → Settles s.base a o (progress a l.trail.progress ms) (v, false)) → said_so_far a l.trail.progress ++ u ≡ greeting a (progress a l.trail.progress ms) ++ v
     → LeadsTo s e Over c x (h ++ deeds_of ms) (said ++ u)
 ends {s} {e} a k ms v u b c x h said l suit own few set g =
     answered (Serving a k) Over b c x h said l ms u false none (λ y i more rest w. go (l.trail.cut (b ++ y)) (few (b ++ y)) more rest w) (refl, refl) l.shut refl
@@ -174,8 +174,8 @@ replied closes = cond closes Over Between
 -- A request whose body is whole is answered.
 pub answers : {s : Server} {e : Bool} (a : Asked) (k : Work) (ms : List Move) (body : List ℕ) (closes : Bool) (v u b x : List ℕ) (h : Deeds) (said : List ℕ) (l : LeadsTo s e (Serving a k) b x h said)
     → ((y : List ℕ) → l.trail.cut (b ++ y) ≡ record { bytes = body; end = cut.Whole (b ++ y) })
-    → AllSuit s.piece (plan_of a) ms → IsOwn s.base a (Whole body) (course a l.trail.course ms) → stages_in l.now + stages_in ms ≤ length body + 1
-    → Settles s.base a (Whole body) (course a l.trail.course ms) (v, not closes) → said_so_far a l.trail.course ++ u ≡ greeting a (course a l.trail.course ms) ++ v
+    → AllSuit s.piece (plan_of a) ms → IsOwn s.base a (Whole body) (progress a l.trail.progress ms) → stages_in l.now + stages_in ms ≤ length body + 1
+    → Settles s.base a (Whole body) (progress a l.trail.progress ms) (v, not closes) → said_so_far a l.trail.progress ++ u ≡ greeting a (progress a l.trail.progress ms) ++ v
     → LeadsTo s e (replied closes) b x (h ++ deeds_of ms) (said ++ u)
 answers {s} {e} a k ms body true v u b x h said l whole suit own few set g =
     answered (Serving a k) Over b b x h said l ms u false none
@@ -191,8 +191,8 @@ answers {s} {e} a k ms body false v u b x h said l whole suit own few set g =
 -- A request whose body has a fault in its transfer is answered, and the connection ends.
 pub answers_fault : {s : Server} {e : Bool} (a : Asked) (k : Work) (ms : List Move) (front : List ℕ) (st : ℕ) (v u b c x : List ℕ) (h : Deeds) (said : List ℕ) (l : LeadsTo s e (Serving a k) b x h said)
     → ((y : List ℕ) → l.trail.cut (b ++ y) ≡ record { bytes = front; end = cut.Faulty st })
-    → AllSuit s.piece (plan_of a) ms → IsOwn s.base a (Faulty front st) (course a l.trail.course ms) → stages_in l.now + stages_in ms ≤ length front + 1
-    → Settles s.base a (Faulty front st) (course a l.trail.course ms) (v, false) → said_so_far a l.trail.course ++ u ≡ greeting a (course a l.trail.course ms) ++ v
+    → AllSuit s.piece (plan_of a) ms → IsOwn s.base a (Faulty front st) (progress a l.trail.progress ms) → stages_in l.now + stages_in ms ≤ length front + 1
+    → Settles s.base a (Faulty front st) (progress a l.trail.progress ms) (v, false) → said_so_far a l.trail.progress ++ u ≡ greeting a (progress a l.trail.progress ms) ++ v
     → LeadsTo s e Over c x (h ++ deeds_of ms) (said ++ u)
 answers_fault {s} {e} a k ms front st v u b c x h said l faulty suit own few set g =
     answered (Serving a k) Over b c x h said l ms u false none
@@ -203,8 +203,8 @@ answers_fault {s} {e} a k ms front st v u b c x h said l faulty suit own few set
 -- The input ended within the body, and so does the connection.
 pub ends_open : {s : Server} (a : Asked) (k : Work) (ms : List Move) (front v u b c x : List ℕ) (h : Deeds) (said : List ℕ) (l : LeadsTo s true (Serving a k) b x h said)
     → l.trail.cut (b ++ []) ≡ record { bytes = front; end = cut.Open }
-    → AllSuit s.piece (plan_of a) ms → IsOwn s.base a (Unended front true) (course a l.trail.course ms) → stages_in l.now + stages_in ms ≤ length front + 1
-    → Settles s.base a (Unended front true) (course a l.trail.course ms) (v, false) → said_so_far a l.trail.course ++ u ≡ greeting a (course a l.trail.course ms) ++ v
+    → AllSuit s.piece (plan_of a) ms → IsOwn s.base a (Unended front true) (progress a l.trail.progress ms) → stages_in l.now + stages_in ms ≤ length front + 1
+    → Settles s.base a (Unended front true) (progress a l.trail.progress ms) (v, false) → said_so_far a l.trail.progress ++ u ≡ greeting a (progress a l.trail.progress ms) ++ v
     → LeadsTo s true Over c x (h ++ deeds_of ms) (said ++ u)
 ends_open {s} a k ms front v u b c x h said l ended suit own few set g =
     answered (Serving a k) Over b c x h said l ms u false none

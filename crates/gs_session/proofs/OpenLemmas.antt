@@ -20,8 +20,8 @@ use Rattle.gs_verdict.specs.declared.verdicts.Asked.{Asked}
 use Rattle.gs_reply.specs.Notices.{Nothing}
 use Rattle.gs_reply.specs.Replies.{reply_text, continue_text}
 use Rattle.gs_talk.specs.Plans.{Plan, Uploads, Patches, Deletes, Looks, Reads, NoPlan, opens, plan_of}
-use Rattle.gs_talk.specs.Courses.{Move, Did, Short, Course, Fresh, Early, Writing, Patching, Lacking, Memory, Numbers}
-use Rattle.gs_talk.specs.Moves.{first, course_after}
+use Rattle.gs_talk.specs.Progress.{Move, Did, Short, Progress, NotStarted, Early, UploadOpen, PatchOpen, Lacking, Memory, Numbers}
+use Rattle.gs_talk.specs.Moves.{first, progress_after}
 use Rattle.gs_talk.specs.Seats.{Deeds}
 use Rattle.gs_talk.specs.Replies.{said_so_far, greeting, ends_early}
 use Rattle.gs_talk.specs.Logs.{Server, AllSuit, deeds_of, stage_count}
@@ -48,13 +48,13 @@ quiet true = refl
 quiet false = refl
 
 -- before an Open nothing was said
-pub unsaid : (a : Asked) (before : Course) → before ≡ Fresh → opens (plan_of a) ≡ true → said_so_far a before ≡ []
+pub unsaid : (a : Asked) (before : Progress) → before ≡ NotStarted → opens (plan_of a) ≡ true → said_so_far a before ≡ []
 unsaid a before at o =
-    ap (λ (c : Course). said_so_far a c) at ∙ append-nil (greeting a Fresh) ∙ ap (λ v. cond a.awaits_continue (cond (not v) continue_text []) []) o ∙ quiet a.awaits_continue
+    ap (λ (c : Progress). said_so_far a c) at ∙ append-nil (greeting a NotStarted) ∙ ap (λ v. cond a.awaits_continue (cond (not v) continue_text []) []) o ∙ quiet a.awaits_continue
 
 -- the trail of a body of which nothing came
-abbrev pub first_trail : Asked → Course → Trail
-first_trail a c = record { cut = λ z. body_at (limit_of a.method) a.framing z; course = c }
+abbrev pub first_trail : Asked → Progress → Trail
+first_trail a c = record { cut = λ z. body_at (limit_of a.method) a.framing z; progress = c }
 
 -- no data before a body leave it as it is
 pub none_of : (c : cut.BodyCut) → c ≡ with_data [] c
@@ -65,16 +65,16 @@ pub opened_so : {s : Server} {e : Bool} (a : Asked) (k : UploadKind) (since : Op
     → plan_of a ≡ Uploads k since → (n : Next) (w : Work) → Says n (Serving a w) (greeting_of a) → ReceivesBody s.base a r w → LeadsTo s e n.phase b x (h ++ (act.Open k since, Opened r) ∷ []) (said ++ n.said.items)
 opened_so {s} a k since r b x h said l is n (Uploading g t) y o =
     to_next n (Serving a (Uploading g t)) (greeting_of a) b x (h ++ (act.Open k since, Opened r) ∷ []) said y
-    (moved a Opening (Uploading g t) (Did (act.Open k since) (Opened r) ∷ []) (greeting_of a) b b x h said l (first_trail a (Writing r [])) (λ y. sym (l.keeps.stands.2 (b ++ y))) (is, tt)
-    (first_is a l.trail.course (Uploads k since) (Did (act.Open k since) (Opened r)) l.keeps.stands.0 is)
-    (ap (λ z. z ++ greeting_of a) (unsaid a l.trail.course l.keeps.stands.0 l.keeps.stands.1) ∙ sym (append-nil (greeting_of a))) (λ z. omega (arith, l.keeps.stands.3))
+    (moved a Opening (Uploading g t) (Did (act.Open k since) (Opened r) ∷ []) (greeting_of a) b b x h said l (first_trail a (UploadOpen r [])) (λ y. sym (l.keeps.stands.2 (b ++ y))) (is, tt)
+    (first_is a l.trail.progress (Uploads k since) (Did (act.Open k since) (Opened r)) l.keeps.stands.0 is)
+    (ap (λ z. z ++ greeting_of a) (unsaid a l.trail.progress l.keeps.stands.0 l.keeps.stands.1) ∙ sym (append-nil (greeting_of a))) (λ z. omega (arith, l.keeps.stands.3))
     (record { request = r; done = []; staged = []; stands = refl; fed = o.0; cut = λ z. sym (o.1 z) ∙ none_of (cut_of t z); few = omega (arith, l.keeps.stands.3) }))
 opened_so {s} a k since r b x h said l is n (Failing want.Memory) y o =
     to_next n (Serving a (Failing want.Memory)) (greeting_of a) b x (h ++ (act.Open k since, Opened r) ∷ []) said y
-    (moved a Opening (Failing want.Memory) (Did (act.Open k since) (Opened r) ∷ Short ∷ []) (greeting_of a) b b x h said l (first_trail a (Lacking (Writing r []) Memory)) (λ y. sym (l.keeps.stands.2 (b ++ y))) (is, tt)
-    (ap (λ (c : Course). course_after a c Short) (first_is a l.trail.course (Uploads k since) (Did (act.Open k since) (Opened r)) l.keeps.stands.0 is))
-    (ap (λ z. z ++ greeting_of a) (unsaid a l.trail.course l.keeps.stands.0 l.keeps.stands.1) ∙ sym (append-nil (greeting_of a))) (λ z. omega (arith, l.keeps.stands.3))
-    (Writing r [], refl, tt))
+    (moved a Opening (Failing want.Memory) (Did (act.Open k since) (Opened r) ∷ Short ∷ []) (greeting_of a) b b x h said l (first_trail a (Lacking (UploadOpen r []) Memory)) (λ y. sym (l.keeps.stands.2 (b ++ y))) (is, tt)
+    (ap (λ (c : Progress). progress_after a c Short) (first_is a l.trail.progress (Uploads k since) (Did (act.Open k since) (Opened r)) l.keeps.stands.0 is))
+    (ap (λ z. z ++ greeting_of a) (unsaid a l.trail.progress l.keeps.stands.0 l.keeps.stands.1) ∙ sym (append-nil (greeting_of a))) (λ z. omega (arith, l.keeps.stands.3))
+    (UploadOpen r [], refl, tt))
 opened_so a k since r b x h said l is n w y o = absurd o
 
 -- A patch was opened.
@@ -83,9 +83,9 @@ pub opened_patch : {s : Server} {e : Bool} (a : Asked) (t : Target) (since : Opt
     → LeadsTo s e n.phase b x (h ++ (act.OpenPatch t since, Opened r) ∷ []) (said ++ n.said.items)
 opened_patch {s} a t since r v transfer b x h said l is n y none first =
     to_next n (Serving a (work.Patching r v transfer)) (greeting_of a) b x (h ++ (act.OpenPatch t since, Opened r) ∷ []) said y
-    (moved a Opening (work.Patching r v transfer) (Did (act.OpenPatch t since) (Opened r) ∷ []) (greeting_of a) b b x h said l (first_trail a (Patching r)) (λ y. sym (l.keeps.stands.2 (b ++ y))) (is, tt)
-    (first_is a l.trail.course (Patches t since) (Did (act.OpenPatch t since) (Opened r)) l.keeps.stands.0 is)
-    (ap (λ z. z ++ greeting_of a) (unsaid a l.trail.course l.keeps.stands.0 l.keeps.stands.1) ∙ sym (append-nil (greeting_of a))) (λ z. omega (arith, l.keeps.stands.3))
+    (moved a Opening (work.Patching r v transfer) (Did (act.OpenPatch t since) (Opened r) ∷ []) (greeting_of a) b b x h said l (first_trail a (PatchOpen r)) (λ y. sym (l.keeps.stands.2 (b ++ y))) (is, tt)
+    (first_is a l.trail.progress (Patches t since) (Did (act.OpenPatch t since) (Opened r)) l.keeps.stands.0 is)
+    (ap (λ z. z ++ greeting_of a) (unsaid a l.trail.progress l.keeps.stands.0 l.keeps.stands.1) ∙ sym (append-nil (greeting_of a))) (λ z. omega (arith, l.keeps.stands.3))
     (refl, λ z. sym (first z) ∙ none_of (cut_of transfer z) ∙ ap (λ d. with_data d (cut_of transfer z)) (sym none)))
 
 -- an Open that is refused
@@ -100,15 +100,15 @@ early_is a (Reads t) = refl
 early_is a NoPlan = refl
 
 -- nothing but the reply is said
-unsaid_early : (a : Asked) (before : Course) → before ≡ Fresh → opens (plan_of a) ≡ true → said_so_far a before ≡ cond a.awaits_continue [] []
+unsaid_early : (a : Asked) (before : Progress) → before ≡ NotStarted → opens (plan_of a) ≡ true → said_so_far a before ≡ cond a.awaits_continue [] []
 unsaid_early a before at o = unsaid a before at o ∙ sym (quiet a.awaits_continue)
 
 -- there was no memory, at the store or at the session: 503
 early_memory : {s : Server} {e : Bool} (a : Asked) (m : Move) (b x : List ℕ) (h : Deeds) (said : List ℕ) (l : LeadsTo s e (Serving a Opening) b x h said)
-    → AllSuit s.piece (plan_of a) (m ∷ []) → stage_count m ≡ 0 → course_after a l.trail.course m ≡ Early Memory → (n : Next) → Replies n 503 true → LeadsTo s e n.phase b x (h ++ deeds_of (m ∷ [])) (said ++ n.said.items)
+    → AllSuit s.piece (plan_of a) (m ∷ []) → stage_count m ≡ 0 → progress_after a l.trail.progress m ≡ Early Memory → (n : Next) → Replies n 503 true → LeadsTo s e n.phase b x (h ++ deeds_of (m ∷ [])) (said ++ n.said.items)
 early_memory a m b x h said l suit none is n o =
     replies_any a Opening (m ∷ []) (Early Memory) (reply_text 503 Nothing None true) b x h said l (omega (arith, none))
-    (λ o. record { suits = suit; came = is; mute = refl; own = tt; settled = refl; greeted = unsaid_early a l.trail.course l.keeps.stands.0 l.keeps.stands.1 }) n o
+    (λ o. record { suits = suit; came = is; mute = refl; own = tt; settled = refl; greeted = unsaid_early a l.trail.progress l.keeps.stands.0 l.keeps.stands.1 }) n o
 
 -- a body that is not announced is empty
 unannounced : (limit : ℕ) (f : Framing) (z : List ℕ) → announces f ≡ false → body_at limit f z ≡ record { bytes = []; end = cut.Whole z }
@@ -126,7 +126,7 @@ or_false false v e = e
 
 -- there was no number left: 507
 numbers_by : {s : Server} {e : Bool} (a : Asked) (m : Move) (v : Bool) (b x : List ℕ) (h : Deeds) (said : List ℕ) (l : LeadsTo s e (Serving a Opening) b x h said)
-    → AllSuit s.piece (plan_of a) (m ∷ []) → stage_count m ≡ 0 → course_after a l.trail.course m ≡ Early Numbers → ends_early a ≡ v → (n : Next) → Replies n 507 v → LeadsTo s e n.phase b x (h ++ deeds_of (m ∷ [])) (said ++ n.said.items)
+    → AllSuit s.piece (plan_of a) (m ∷ []) → stage_count m ≡ 0 → progress_after a l.trail.progress m ≡ Early Numbers → ends_early a ≡ v → (n : Next) → Replies n 507 v → LeadsTo s e n.phase b x (h ++ deeds_of (m ∷ [])) (said ++ n.said.items)
 numbers_by a m true b x h said l suit none is ends n o =
     replies_any a Opening (m ∷ []) (Early Numbers) (reply_text 507 Nothing None true) b x h said l (omega (arith, none))
     (λ o. record {
@@ -135,7 +135,7 @@ numbers_by a m true b x h said l suit none is ends n o =
       mute = refl;
       own = tt;
       settled = ap (λ z. (reply_text 507 Nothing None z, not z)) (sym ends);
-      greeted = unsaid_early a l.trail.course l.keeps.stands.0 l.keeps.stands.1;
+      greeted = unsaid_early a l.trail.progress l.keeps.stands.0 l.keeps.stands.1;
     }) n o
 numbers_by a m false b x h said l suit none is ends n o =
     let whole : (y : List ℕ) → l.trail.cut (b ++ y) ≡ record { bytes = []; end = cut.Whole (b ++ y) } =
@@ -147,11 +147,11 @@ numbers_by a m false b x h said l suit none is ends n o =
       mute = refl;
       own = tt;
       settled = ap (λ z. (reply_text 507 Nothing None z, not z)) (sym ends);
-      greeted = unsaid_early a l.trail.course l.keeps.stands.0 l.keeps.stands.1;
+      greeted = unsaid_early a l.trail.progress l.keeps.stands.0 l.keeps.stands.1;
     }) n o
 
 early_numbers : {s : Server} {e : Bool} (a : Asked) (m : Move) (b x : List ℕ) (h : Deeds) (said : List ℕ) (l : LeadsTo s e (Serving a Opening) b x h said)
-    → AllSuit s.piece (plan_of a) (m ∷ []) → stage_count m ≡ 0 → course_after a l.trail.course m ≡ Early Numbers → (n : Next) → Replies n 507 (ends_early a) → LeadsTo s e n.phase b x (h ++ deeds_of (m ∷ [])) (said ++ n.said.items)
+    → AllSuit s.piece (plan_of a) (m ∷ []) → stage_count m ≡ 0 → progress_after a l.trail.progress m ≡ Early Numbers → (n : Next) → Replies n 507 (ends_early a) → LeadsTo s e n.phase b x (h ++ deeds_of (m ∷ [])) (said ++ n.said.items)
 early_numbers a m b x h said l suit none is n o = numbers_by a m (ends_early a) b x h said l suit none is refl n o
 
 -- The Open of an upload.
@@ -159,22 +159,22 @@ pub open_leads : {s : Server} {e : Bool} (a : Asked) (k : UploadKind) (since : O
     → plan_of a ≡ Uploads k since → (n : Next) → AfterOpen s.base a (greeting_of a) answer n → LeadsTo s e n.phase b x (h ++ (act.Open k since, answer) ∷ []) (said ++ n.said.items)
 open_leads a k since (Opened r) b x h said l is n o = opened_so a k since r b x h said l is n o.0 o.1 o.2
 open_leads a k since (Refused why.NoMemory) b x h said l is n o =
-    early_memory a (Did (act.Open k since) (Refused why.NoMemory)) b x h said l (is, tt) refl (first_is a l.trail.course (Uploads k since) (Did (act.Open k since) (Refused why.NoMemory)) l.keeps.stands.0 is) n o
+    early_memory a (Did (act.Open k since) (Refused why.NoMemory)) b x h said l (is, tt) refl (first_is a l.trail.progress (Uploads k since) (Did (act.Open k since) (Refused why.NoMemory)) l.keeps.stands.0 is) n o
 open_leads a k since (Refused why.LastNumber) b x h said l is n o =
-    early_numbers a (Did (act.Open k since) (Refused why.LastNumber)) b x h said l (is, tt) refl (first_is a l.trail.course (Uploads k since) (Did (act.Open k since) (Refused why.LastNumber)) l.keeps.stands.0 is) n o
+    early_numbers a (Did (act.Open k since) (Refused why.LastNumber)) b x h said l (is, tt) refl (first_is a l.trail.progress (Uploads k since) (Did (act.Open k since) (Refused why.LastNumber)) l.keeps.stands.0 is) n o
 open_leads a k since answer b x h said l is n o =
-    broke a Opening (Did (act.Open k since) answer) Fresh b b x h said l (is, tt) l.keeps.stands.0 (first_is a Fresh (Uploads k since) (Did (act.Open k since) answer) refl is) (λ o. tt) (no_more a Opening b x h said l) n o
+    broke a Opening (Did (act.Open k since) answer) NotStarted b b x h said l (is, tt) l.keeps.stands.0 (first_is a NotStarted (Uploads k since) (Did (act.Open k since) answer) refl is) (λ o. tt) (no_more a Opening b x h said l) n o
 
 -- The Open of a patch.
 pub open_patch_leads : {s : Server} {e : Bool} (a : Asked) (t : Target) (since : Option ℕ) (answer : Answer) (b x : List ℕ) (h : Deeds) (said : List ℕ) (l : LeadsTo s e (Serving a Opening) b x h said)
     → plan_of a ≡ Patches t since → (n : Next) → AfterOpenPatch a (greeting_of a) answer n → LeadsTo s e n.phase b x (h ++ (act.OpenPatch t since, answer) ∷ []) (said ++ n.said.items)
 open_patch_leads a t since (Opened r) b x h said l is n o = opened_patch a t since r o.0 o.1 b x h said l is n o.2 o.3 o.4
 open_patch_leads a t since (Refused why.NoMemory) b x h said l is n o =
-    early_memory a (Did (act.OpenPatch t since) (Refused why.NoMemory)) b x h said l (is, tt) refl (first_is a l.trail.course (Patches t since) (Did (act.OpenPatch t since) (Refused why.NoMemory)) l.keeps.stands.0 is) n o
+    early_memory a (Did (act.OpenPatch t since) (Refused why.NoMemory)) b x h said l (is, tt) refl (first_is a l.trail.progress (Patches t since) (Did (act.OpenPatch t since) (Refused why.NoMemory)) l.keeps.stands.0 is) n o
 open_patch_leads a t since (Refused why.LastNumber) b x h said l is n o =
-    early_numbers a (Did (act.OpenPatch t since) (Refused why.LastNumber)) b x h said l (is, tt) refl (first_is a l.trail.course (Patches t since) (Did (act.OpenPatch t since) (Refused why.LastNumber)) l.keeps.stands.0 is) n o
+    early_numbers a (Did (act.OpenPatch t since) (Refused why.LastNumber)) b x h said l (is, tt) refl (first_is a l.trail.progress (Patches t since) (Did (act.OpenPatch t since) (Refused why.LastNumber)) l.keeps.stands.0 is) n o
 open_patch_leads a t since answer b x h said l is n o =
-    broke a Opening (Did (act.OpenPatch t since) answer) Fresh b b x h said l (is, tt) l.keeps.stands.0 (first_is a Fresh (Patches t since) (Did (act.OpenPatch t since) answer) refl is) (λ o. tt) (no_more a Opening b x h said l) n o
+    broke a Opening (Did (act.OpenPatch t since) answer) NotStarted b b x h said l (is, tt) l.keeps.stands.0 (first_is a NotStarted (Patches t since) (Did (act.OpenPatch t since) answer) refl is) (λ o. tt) (no_more a Opening b x h said l) n o
 
 -- a reply that closes ends the connection
 pub over_next : (n : Next) (v : List ℕ) → Says n Over v ⊎ Stops n → n.phase ≡ Over
@@ -186,7 +186,7 @@ pub open_short : (setup : Setup) (e : Bool) (a : Asked) (b : List ℕ) (n : Next
 open_short setup e a b n o = (
   omega (arith, ap rank (over_next n (reply_text 503 Nothing None true) o)),
   λ x h said l. subst (λ (z : Deeds). LeadsTo (server_of setup) e n.phase b x z (said ++ n.said.items)) (append-nil h)
-      (early_memory a Short b x h said l tt refl (first_is a l.trail.course (plan_of a) Short l.keeps.stands.0 refl ∙ early_is a (plan_of a)) n o),
+      (early_memory a Short b x h said l tt refl (first_is a l.trail.progress (plan_of a) Short l.keeps.stands.0 refl ∙ early_is a (plan_of a)) n o),
 )
 
 -- The Open of an upload, as a step.

@@ -22,8 +22,8 @@ use Rattle.gs_reply.specs.Replies.{reply_text}
 use Rattle.gs_stream.specs.Requests.{by_body, requests}
 use Rattle.gs_talk.specs.Plans.{Plan, plan_of}
 use Rattle.gs_talk.specs.Bodies.{text_base, refusal_at, rejection_status, Orders}
-use Rattle.gs_talk.specs.Courses.{Did, Short, Course, Patching, Lacking, Dropped, Patched, Memory, Numbers}
-use Rattle.gs_talk.specs.Moves.{course_after}
+use Rattle.gs_talk.specs.Progress.{Did, Short, Progress, PatchOpen, Lacking, Dropped, Patched, Memory, Numbers}
+use Rattle.gs_talk.specs.Moves.{progress_after}
 use Rattle.gs_talk.specs.Seats.{Deeds}
 use Rattle.gs_talk.specs.Replies.{said_so_far, greeting}
 use Rattle.gs_talk.specs.Logs.{Server, stages_in}
@@ -51,55 +51,55 @@ use Rattle.gs_session.proofs.PlanLemmas.{patch_plan}
 -- what an open patch allows
 
 -- an open patch can be cancelled
-pub patch_open : (a : Asked) (r : ℕ) → IsOpenAt a (Patching r) r
+pub patch_open : (a : Asked) (r : ℕ) → IsOpenAt a (PatchOpen r) r
 patch_open a r = record { cancels = λ answer. refl; own = λ base o. tt; greeted = append-nil (greeting a (Dropped r)); lines = refl }
 
 -- in a patch no more was said than the greeting
-greeted_patch : (a : Asked) (before : Course) (r : ℕ) → before ≡ Patching r → said_so_far a before ≡ greeting a (Patching r)
-greeted_patch a before r at = ap (λ (c : Course). said_so_far a c) at ∙ append-nil (greeting a (Patching r))
+greeted_patch : (a : Asked) (before : Progress) (r : ℕ) → before ≡ PatchOpen r → said_so_far a before ≡ greeting a (PatchOpen r)
+greeted_patch a before r at = ap (λ (c : Progress). said_so_far a c) at ∙ append-nil (greeting a (PatchOpen r))
 
 -- the refusal of a patch's body, by the fault of its text
 pub patch_refusal : {s : Server} {e : Bool} (a : Asked) (k : Work) (b x : List ℕ) (h : Deeds) (said : List ℕ) (l : LeadsTo s e (Serving a k) b x h said) (r : ℕ) (body : List ℕ) (why : Option Rejection)
-    → l.trail.course ≡ Patching r → (request_by (text_base s.base a.graph) r body).1 ≡ why → refusal_at s.base a (plan_of a) r body ≡ rejection_status why
+    → l.trail.progress ≡ PatchOpen r → (request_by (text_base s.base a.graph) r body).1 ≡ why → refusal_at s.base a (plan_of a) r body ≡ rejection_status why
 patch_refusal {s} a k b x h said l r body why at is =
     ap (λ (p : Plan). refusal_at s.base a p r body) (patch_plan a l.now r (l.keeps.came ∙ at)).2 ∙ ap (λ (f : Option Rejection). rejection_status f) is
 
 -- The body is whole, and is an update: the CommitPatch is made.
 pub order_leads : {s : Server} {e : Bool} (a : Asked) (k : Work) (r : ℕ) (ops : Vec Op Global) (answer : Answer) (b x : List ℕ) (h : Deeds) (said body : List ℕ) (l : LeadsTo s e (Serving a k) b x h said)
-    → l.trail.course ≡ Patching r → IsWholeAt l body → Orders s.base a r body ops.items → (n : Next) → AfterCommitPatch a answer n
+    → l.trail.progress ≡ PatchOpen r → IsWholeAt l body → Orders s.base a r body ops.items → (n : Next) → AfterCommitPatch a answer n
     → LeadsTo s e n.phase b x (h ++ (act.CommitPatch ops, answer) ∷ []) (said ++ n.said.items)
 order_leads a k r ops (Status st name number) b x h said body l at whole orders n o =
     replies a k (Did (act.CommitPatch ops) (Status st name number) ∷ []) (Patched r ops.items st number) body (reply_text st Nothing (Some number) a.closes) a.closes b x h said l whole
     (few_still a k b x h said l body (Did (act.CommitPatch ops) (Status st name number) ∷ []) whole refl)
     (record {
       suits = (tt, tt);
-      came = ap (λ (c : Course). course_after a c (Did (act.CommitPatch ops) (Status st name number))) at;
+      came = ap (λ (c : Progress). progress_after a c (Did (act.CommitPatch ops) (Status st name number))) at;
       mute = refl;
       own = orders;
       settled = refl;
-      greeted = greeted_patch a l.trail.course r at;
+      greeted = greeted_patch a l.trail.progress r at;
     }) n o
 order_leads a k r ops (Refused why.NoMemory) b x h said body l at whole orders n o =
-    reads_on a k (Failing want.Memory) (Did (act.CommitPatch ops) (Refused why.NoMemory) ∷ []) (Lacking (Patching r) Memory) [] b x h said body l whole (tt, tt)
-    (ap (λ (c : Course). course_after a c (Did (act.CommitPatch ops) (Refused why.NoMemory))) at)
-    (append-nil (said_so_far a l.trail.course) ∙ ap (λ (c : Course). said_so_far a c) at) refl (Patching r, refl, tt) n o
+    reads_on a k (Failing want.Memory) (Did (act.CommitPatch ops) (Refused why.NoMemory) ∷ []) (Lacking (PatchOpen r) Memory) [] b x h said body l whole (tt, tt)
+    (ap (λ (c : Progress). progress_after a c (Did (act.CommitPatch ops) (Refused why.NoMemory))) at)
+    (append-nil (said_so_far a l.trail.progress) ∙ ap (λ (c : Progress). said_so_far a c) at) refl (PatchOpen r, refl, tt) n o
 order_leads a k r ops (Refused why.LastNumber) b x h said body l at whole orders n o =
-    reads_on a k (Failing want.Numbers) (Did (act.CommitPatch ops) (Refused why.LastNumber) ∷ []) (Lacking (Patching r) Numbers) [] b x h said body l whole (tt, tt)
-    (ap (λ (c : Course). course_after a c (Did (act.CommitPatch ops) (Refused why.LastNumber))) at)
-    (append-nil (said_so_far a l.trail.course) ∙ ap (λ (c : Course). said_so_far a c) at) refl
-    (Patching r, refl, (body, λ z. refl, (r, patch_refusal a k b x h said l r body None at orders.0))) n o
+    reads_on a k (Failing want.Numbers) (Did (act.CommitPatch ops) (Refused why.LastNumber) ∷ []) (Lacking (PatchOpen r) Numbers) [] b x h said body l whole (tt, tt)
+    (ap (λ (c : Progress). progress_after a c (Did (act.CommitPatch ops) (Refused why.LastNumber))) at)
+    (append-nil (said_so_far a l.trail.progress) ∙ ap (λ (c : Progress). said_so_far a c) at) refl
+    (PatchOpen r, refl, (body, λ z. refl, (r, patch_refusal a k b x h said l r body None at orders.0))) n o
 order_leads a k r ops answer b x h said body l at whole orders n o =
-    broke a k (Did (act.CommitPatch ops) answer) (Patching r) b b x h said l (tt, tt) at refl (λ o. tt) (no_more a k b x h said l) n o
+    broke a k (Did (act.CommitPatch ops) answer) (PatchOpen r) b b x h said l (tt, tt) at refl (λ o. tt) (no_more a k b x h said l) n o
 
 -- There was no memory for a patch.
 pub patch_short : {s : Server} {e : Bool} (a : Asked) (k : Work) (r : ℕ) (rest : List ℕ → BodyCut) (b c x : List ℕ) (h : Deeds) (said : List ℕ) (l : LeadsTo s e (Serving a k) b x h said)
-    → l.trail.course ≡ Patching r → ((y : List ℕ) → rest (c ++ y) ≡ l.trail.cut (b ++ y)) → ((z : List ℕ) → stages_in l.now + 0 ≤ length (rest z).bytes + 1)
+    → l.trail.progress ≡ PatchOpen r → ((y : List ℕ) → rest (c ++ y) ≡ l.trail.cut (b ++ y)) → ((z : List ℕ) → stages_in l.now + 0 ≤ length (rest z).bytes + 1)
     → (n : Next) → Says n (Serving a (Failing want.Memory)) [] → LeadsTo s e n.phase c x h (said ++ n.said.items)
 patch_short {s} {e} a k r rest b c x h said l at same few n y =
     to_next n (Serving a (Failing want.Memory)) [] c x h said y
     (subst (λ (d : Deeds). LeadsTo s e (Serving a (Failing want.Memory)) c x d (said ++ [])) (append-nil h)
-    (moved a k (Failing want.Memory) (Short ∷ []) [] b c x h said l (record { cut = rest; course = Lacking (Patching r) Memory }) same tt (ap (λ (c : Course). course_after a c Short) at)
-    (append-nil (said_so_far a l.trail.course) ∙ ap (λ (c : Course). said_so_far a c) at) few (Patching r, refl, tt)))
+    (moved a k (Failing want.Memory) (Short ∷ []) [] b c x h said l (record { cut = rest; progress = Lacking (PatchOpen r) Memory }) same tt (ap (λ (c : Progress). progress_after a c Short) at)
+    (append-nil (said_so_far a l.trail.progress) ∙ ap (λ (c : Progress). said_so_far a c) at) few (PatchOpen r, refl, tt)))
 
 -- steps
 
@@ -113,12 +113,12 @@ few_patch a r v t t2 bytes b x h said l z =
 pub patch_on : {s : Server} {e : Bool} (a : Asked) (r : ℕ) (v v2 : Vec ℕ Global) (t t2 : Transfer) (bytes b x : List ℕ) (n : ℕ) (h : Deeds) (said : List ℕ) (l : LeadsTo s e (Serving a (work.Patching r v t)) b x h said)
     → GivesData t t2 b bytes n → v2.items ≡ v.items ++ bytes → LeadsTo s e (Serving a (work.Patching r v2 t2)) (drop n b) x h said
 patch_on {s} a r v v2 t t2 bytes b x n h said l p is =
-    silent (Serving a (work.Patching r v t)) (Serving a (work.Patching r v2 t2)) b (drop n b) x h said l (part_trail (v.items ++ bytes) t2 (Patching r))
+    silent (Serving a (work.Patching r v t)) (Serving a (work.Patching r v2 t2)) b (drop n b) x h said l (part_trail (v.items ++ bytes) t2 (PatchOpen r))
     (λ y. ap (λ (c : BodyCut). by_body (requests s.base) a c) (seam l.trail v.items bytes b t t2 n l.keeps.stands.1 p y))
     (record {
       suits = l.keeps.suits;
       came = l.keeps.came ∙ l.keeps.stands.0;
-      said = l.keeps.said ∙ ap (λ (c : Course). said_so_far a c) l.keeps.stands.0;
+      said = l.keeps.said ∙ ap (λ (c : Progress). said_so_far a c) l.keeps.stands.0;
       few = λ z. omega (arith, few_patch a r v t t2 bytes b x h said l z);
       stands = (refl, λ z. ap (λ w. with_data w (cut_of t2 z)) (sym is));
     }) (λ i. i)
@@ -177,7 +177,7 @@ reject_steps gives setup e a r v t body b why st old new n base is over under fa
   act.Cancel,
   o.0,
   o.1,
-  λ x h said l. drop_leads a (work.Patching r v t) (Patching r) r st o.0 b x h said body l l.keeps.stands.0 (patch_open a r) (patch_whole a r v t b x h said l body is over)
+  λ x h said l. drop_leads a (work.Patching r v t) (PatchOpen r) r st o.0 b x h said body l l.keeps.stands.0 (patch_open a r) (patch_whole a r v t b x h said l body is over)
       (patch_refusal a (work.Patching r v t) b x h said l r body (Some why) l.keeps.stands.0 (ap (λ z. (request_by z r body).1) (sym under) ∙ fault) ∙ status) n o.2,
 )
 
@@ -216,7 +216,7 @@ patch_fault gives setup e a r v t b st old new n faulty o = (
   act.Cancel,
   o.0,
   o.1,
-  λ x h said l. fault_leads a (work.Patching r v t) (Patching r) r st (v.items ++ []) o.0 b x h said l l.keeps.stands.0 (patch_open a r)
+  λ x h said l. fault_leads a (work.Patching r v t) (PatchOpen r) r st (v.items ++ []) o.0 b x h said l l.keeps.stands.0 (patch_open a r)
       (λ y. l.keeps.stands.1 (b ++ y) ∙ ap (λ (c : BodyCut). with_data v.items c) (faulty y)) n o.2,
 )
 
@@ -229,6 +229,6 @@ patch_ends gives setup e a r v t b old new n at_end ended o =
       act.Cancel,
       o.0,
       o.1,
-      λ x h said l. leave_leads a (work.Patching r v t) (Patching r) r (v.items ++ []) o.0 b x h said l l.keeps.stands.0 (patch_open a r)
+      λ x h said l. leave_leads a (work.Patching r v t) (PatchOpen r) r (v.items ++ []) o.0 b x h said l l.keeps.stands.0 (patch_open a r)
           (l.keeps.stands.1 (b ++ []) ∙ ap (λ z. with_data v.items (cut_of t z)) (append-nil b) ∙ ap (λ (c : BodyCut). with_data v.items c) ended) n o.2,
     )

@@ -9,8 +9,8 @@ use Rattle.gs_stream.specs.Heads.{HeadCut, stripped, head_at}
 use Rattle.gs_stream.specs.Heads as head
 use Rattle.gs_stream.specs.Requests.{Request, Waits, by_body, by_head, requests}
 use Rattle.gs_stream.proofs.RequestLemmas.{reads-on}
-use Rattle.gs_talk.specs.Courses.{Course, Fresh}
-use Rattle.gs_talk.specs.Moves.{course}
+use Rattle.gs_talk.specs.Progress.{Progress, NotStarted}
+use Rattle.gs_talk.specs.Moves.{progress}
 use Rattle.gs_talk.specs.Seats.{Deeds}
 use Rattle.gs_talk.specs.Replies.{BodyState, Unended, IsOwn, said_so_far}
 use Rattle.gs_talk.specs.Logs.{Server, Log, AnswersAll, IsRight}
@@ -37,8 +37,8 @@ answered_now {s} {e} {p} {b} {x} l =
     (subst (λ (g : Log). AnswersAll s e g (requests s.base (x ++ [])) (coming s.base p l.trail (b ++ []))) (append-nil l.log) (l.same [] (may_none e) [] (coming s.base p l.trail (b ++ [])) refl)))
 
 -- what was done for a request whose body is awaited
-waiting : {s : Server} {e : Bool} (a : Asked) (k : Work) (b x : List ℕ) (h : Deeds) (said : List ℕ) (l : LeadsTo s e (Serving a k) b x h said) (c : Course) (front : List ℕ)
-    → l.trail.course ≡ c → ((o : BodyState) → IsOwn s.base a o c) → IsRight c → awaits_body a c ≡ true → l.trail.cut b ≡ record { bytes = front; end = cut.Open } → SaysAll s e x h said
+waiting : {s : Server} {e : Bool} (a : Asked) (k : Work) (b x : List ℕ) (h : Deeds) (said : List ℕ) (l : LeadsTo s e (Serving a k) b x h said) (c : Progress) (front : List ℕ)
+    → l.trail.progress ≡ c → ((o : BodyState) → IsOwn s.base a o c) → IsRight c → awaits_body a c ≡ true → l.trail.cut b ≡ record { bytes = front; end = cut.Open } → SaysAll s e x h said
 waiting {s} {e} a k b x h said l c front at own right awaits is = (
   Waits a front ∷ [],
   tt,
@@ -51,21 +51,21 @@ waiting {s} {e} a k b x h said l c front at own right awaits is = (
       hand = (
         (
           l.keeps.suits,
-          subst (λ (d : Course). IsOwn s.base a (Unended front e) d) (sym to_c) (own (Unended front e)),
+          subst (λ (d : Progress). IsOwn s.base a (Unended front e) d) (sym to_c) (own (Unended front e)),
           omega (arith, l.keeps.few b, ap (λ (v : BodyCut). length v.bytes) is),
         ),
         subst IsRight (sym to_c) right,
-        l.keeps.said ∙ ap (λ (d : Course). said_so_far a d) (at ∙ sym to_c),
+        l.keeps.said ∙ ap (λ (d : Progress). said_so_far a d) (at ∙ sym to_c),
       );
       done = l.done;
       written = l.written;
     },
-    ap (λ (d : Course). awaits_body a d) to_c ∙ awaits,
+    ap (λ (d : Progress). awaits_body a d) to_c ∙ awaits,
     l.shut,
   ),
 )
   where
-    to_c : course a Fresh l.now ≡ c
+    to_c : progress a NotStarted l.now ≡ c
     to_c = l.keeps.came ∙ at
 
 open_cut : (t : Trail) (done b : List ℕ) (transfer : Transfer) → t.cut b ≡ with_data done (cut_of transfer b) → cut_of transfer b ≡ ends cut.Open → t.cut b ≡ record { bytes = done ++ []; end = cut.Open }
@@ -90,7 +90,7 @@ says_all {s} {e} Between b x h said i n l = (
   ),
 )
 says_all {s} {e} (Serving a (Skipping t)) b x h said i n l =
-    waiting a (Skipping t) b x h said l Fresh (l.keeps.stands.0 ++ []) l.keeps.stands.1 (λ o. tt) tt (ap not l.keeps.stands.2) (open_cut l.trail l.keeps.stands.0 b t (l.keeps.stands.3 b) i.1)
+    waiting a (Skipping t) b x h said l NotStarted (l.keeps.stands.0 ++ []) l.keeps.stands.1 (λ o. tt) tt (ap not l.keeps.stands.2) (open_cut l.trail l.keeps.stands.0 b t (l.keeps.stands.3 b) i.1)
 says_all {s} {e} (Serving a (Uploading k t)) b x h said i n l =
     waiting a (Uploading k t) b x h said l _ (l.keeps.stands.done ++ []) l.keeps.stands.stands (λ o. tt) tt refl (open_cut l.trail l.keeps.stands.done b t (l.keeps.stands.cut b) i.1)
 says_all {s} {e} (Serving a (Patching r v t)) b x h said i n l =

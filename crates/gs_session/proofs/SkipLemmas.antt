@@ -18,8 +18,8 @@ use Rattle.gs_reply.specs.Notices.{Nothing}
 use Rattle.gs_reply.specs.Replies.{reply_text}
 use Rattle.gs_stream.specs.Requests.{Request, by_body, by_end, requests}
 use Rattle.gs_talk.specs.Plans.{Plan, Uploads, Patches, Deletes, Looks, Reads, NoPlan, plan_of}
-use Rattle.gs_talk.specs.Courses.{Move, Short, Course, Fresh, Early, Memory, Mute}
-use Rattle.gs_talk.specs.Moves.{first, course_after, course}
+use Rattle.gs_talk.specs.Progress.{Move, Short, Progress, NotStarted, Early, Memory, Mute}
+use Rattle.gs_talk.specs.Moves.{first, progress_after, progress}
 use Rattle.gs_talk.specs.Seats.{Deeds}
 use Rattle.gs_talk.specs.Replies.{BodyState, Whole, Faulty, Unended, Said, IsOwn, Settles, said_so_far, greeting, data_of, plain, is_early}
 use Rattle.gs_talk.specs.Logs.{Server, Log, AllSuit, AnswersAsk, AnswersAll, deeds_of, stages_in}
@@ -35,7 +35,7 @@ use Rattle.gs_session.specs.Trails.{Trail, IsCutBy}
 use Rattle.gs_session.specs.Leads.{LeadsTo}
 use Rattle.gs_session.specs.Outcomes.{Says, Stops, Replies, AfterDelete, AfterLook, AfterPin}
 use Rattle.gs_session.specs.Steps.{Does, DoesStep, GivesData, IsStill, effort, server_of}
-use Rattle.gs_session.proofs.MoveLemmas.{silent, answered, answers_fault, ends_open, course-append, suit-append, stages-append, none}
+use Rattle.gs_session.proofs.MoveLemmas.{silent, answered, answers_fault, ends_open, progress-append, suit-append, stages-append, none}
 use Rattle.gs_session.proofs.ReplyLemmas.{to_next}
 use Rattle.gs_session.proofs.ReadLemmas.{IsWholeAt, delete_leads, look_leads, pin_leads}
 use Rattle.gs_session.proofs.UploadLemmas.{part_trail, seam}
@@ -52,29 +52,29 @@ first_short a (Reads t) = refl
 first_short a NoPlan = refl
 
 -- Memory was wanting after the greeting was said, before any event: the connection ends, whatever the body is.
-pub ends_early : {s : Server} {e : Bool} (a : Asked) (k : Work) (ms : List Move) (c : Course) (v b x : List ℕ) (h : Deeds) (said : List ℕ) (l : LeadsTo s e (Serving a k) b x h said)
-    → l.trail.course ≡ Fresh → AllSuit s.piece (plan_of a) ms → course a Fresh ms ≡ c → is_early c ≡ true → stages_in ms ≡ 0 → ((o : BodyState) → IsOwn s.base a o c) → ((o : BodyState) → Settles s.base a o c (v, false))
+pub ends_early : {s : Server} {e : Bool} (a : Asked) (k : Work) (ms : List Move) (c : Progress) (v b x : List ℕ) (h : Deeds) (said : List ℕ) (l : LeadsTo s e (Serving a k) b x h said)
+    → l.trail.progress ≡ NotStarted → AllSuit s.piece (plan_of a) ms → progress a NotStarted ms ≡ c → is_early c ≡ true → stages_in ms ≡ 0 → ((o : BodyState) → IsOwn s.base a o c) → ((o : BodyState) → Settles s.base a o c (v, false))
     → LeadsTo s e phase.Over b x (h ++ deeds_of ms) (said ++ v)
 ends_early {s} {e} a k ms c v b x h said l at suit came early no_stage own set =
     answered (Serving a k) phase.Over b b x h said l ms v false none (λ y i more rest w. go (l.trail.cut (b ++ y)) (l.keeps.few (b ++ y)) more rest w) (refl, refl) l.shut refl
   where
-    is : course a Fresh (l.now ++ ms) ≡ c
-    is = course-append a Fresh l.now ms ∙ ap (λ (c : Course). course a c ms) (l.keeps.came ∙ at) ∙ came
+    is : progress a NotStarted (l.now ++ ms) ≡ c
+    is = progress-append a NotStarted l.now ms ∙ ap (λ (c : Progress). progress a c ms) (l.keeps.came ∙ at) ∙ came
 
-    told : ◌≡◌ {A = Said} (l.text ++ v, false) (greeting a Fresh ++ v, false)
-    told = ap (λ (z : List ℕ). (z ++ v, false)) (l.keeps.said ∙ ap (λ (c : Course). said_so_far a c) at ∙ append-nil (greeting a Fresh))
+    told : ◌≡◌ {A = Said} (l.text ++ v, false) (greeting a NotStarted ++ v, false)
+    told = ap (λ (z : List ℕ). (z ++ v, false)) (l.keeps.said ∙ ap (λ (c : Progress). said_so_far a c) at ∙ append-nil (greeting a NotStarted))
 
     by : (o : BodyState) → stages_in l.now ≤ length (data_of o) + 1 → AnswersAsk s a o (l.now ++ ms) (l.text ++ v, false)
     by o n = (
       (
         suit-append s.piece (plan_of a) l.now ms l.keeps.suits suit,
-        subst (λ (c : Course). IsOwn s.base a o c) (sym is) (own o),
+        subst (λ (c : Progress). IsOwn s.base a o c) (sym is) (own o),
         omega (arith, n, no_stage, stages-append l.now ms),
       ),
       (
         (v, false),
-        subst (λ (c : Course). Settles s.base a o c (v, false)) (sym is) (set o),
-        inr (ap (λ (c : Course). is_early c) is ∙ early, told),
+        subst (λ (c : Progress). Settles s.base a o c (v, false)) (sym is) (set o),
+        inr (ap (λ (c : Progress). is_early c) is ∙ early, told),
       ),
     )
 
@@ -90,15 +90,15 @@ ends_early {s} {e} a k ms c v b x h said l at suit came early no_stage own set =
 
 -- without memory nothing is said, not even 503, and the connection ends
 stops_early : {s : Server} {e : Bool} (a : Asked) (k : Work) (b x : List ℕ) (h : Deeds) (said : List ℕ) (l : LeadsTo s e (Serving a k) b x h said)
-    → l.trail.course ≡ Fresh → (n : Next) → Stops n → LeadsTo s e n.phase b x h (said ++ n.said.items)
+    → l.trail.progress ≡ NotStarted → (n : Next) → Stops n → LeadsTo s e n.phase b x h (said ++ n.said.items)
 stops_early {s} {e} a k b x h said l at n y =
     to_next n phase.Over [] b x h said y
     (subst (λ (d : Deeds). LeadsTo s e phase.Over b x d (said ++ [])) (append-nil h)
-    (ends_early a k (Short ∷ Short ∷ []) (Mute (Early Memory)) [] b x h said l at tt (ap (λ (c : Course). course_after a c Short) (first_short a (plan_of a))) refl refl (λ o. tt) (λ o. ((plain 503 true, refl), refl))))
+    (ends_early a k (Short ∷ Short ∷ []) (Mute (Early Memory)) [] b x h said l at tt (ap (λ (c : Progress). progress_after a c Short) (first_short a (plan_of a))) refl refl (λ o. tt) (λ o. ((plain 503 true, refl), refl))))
 
 -- Memory was wanting before any event: the reply is 503, or nothing, and the connection ends.
 pub early_leads : {s : Server} {e : Bool} (a : Asked) (k : Work) (b x : List ℕ) (h : Deeds) (said : List ℕ) (l : LeadsTo s e (Serving a k) b x h said)
-    → l.trail.course ≡ Fresh → (n : Next) → Replies n 503 true → LeadsTo s e n.phase b x h (said ++ n.said.items)
+    → l.trail.progress ≡ NotStarted → (n : Next) → Replies n 503 true → LeadsTo s e n.phase b x h (said ++ n.said.items)
 early_leads {s} {e} a k b x h said l at n (inl y) =
     to_next n phase.Over (reply_text 503 Nothing None true) b x h said y
     (subst (λ (d : Deeds). LeadsTo s e phase.Over b x d (said ++ reply_text 503 Nothing None true)) (append-nil h)
@@ -169,12 +169,12 @@ pub skip_on : {s : Server} {e : Bool} (a : Asked) (t t2 : Transfer) (bytes b x :
     → GivesData t t2 b bytes n → LeadsTo s e (Serving a (Skipping t2)) (drop n b) x h said
 skip_on {s} a t t2 bytes b x n h said l p =
     let done : List ℕ = l.keeps.stands.0 in
-    silent (Serving a (Skipping t)) (Serving a (Skipping t2)) b (drop n b) x h said l (part_trail (done ++ bytes) t2 Fresh)
+    silent (Serving a (Skipping t)) (Serving a (Skipping t2)) b (drop n b) x h said l (part_trail (done ++ bytes) t2 NotStarted)
     (λ y. ap (λ (c : BodyCut). by_body (requests s.base) a c) (seam l.trail done bytes b t t2 n l.keeps.stands.3 p y))
     (record {
       suits = l.keeps.suits;
       came = l.keeps.came ∙ l.keeps.stands.1;
-      said = l.keeps.said ∙ ap (λ (c : Course). said_so_far a c) l.keeps.stands.1;
+      said = l.keeps.said ∙ ap (λ (c : Progress). said_so_far a c) l.keeps.stands.1;
       few = λ z. omega (arith, few_came l.trail done t (stages_in l.now) l.keeps.stands.3 l.keeps.few, length-append (done ++ bytes) (cut_of t2 z).bytes, length-append done bytes);
       stands = (done ++ bytes, refl, l.keeps.stands.2, λ z. refl);
     }) (λ i. i)
@@ -207,11 +207,11 @@ skip_fault gives setup e a t b st old n faulty o = (refl, (over_less n a t b (cl
         (subst (λ (d : Deeds). LeadsTo (server_of setup) e phase.Over b x d (said ++ reply_text st Nothing None true)) (append-nil h)
         (answers_fault a (Skipping t) [] (l.keeps.stands.0 ++ []) st (reply_text st Nothing None true) (reply_text st Nothing None true) b b x h said l
         (λ y. l.keeps.stands.3 (b ++ y) ∙ ap (λ (c : BodyCut). with_data l.keeps.stands.0 c) (faulty y)) tt
-        (subst (λ (c : Course). IsOwn setup.site a (Faulty (l.keeps.stands.0 ++ []) st) c) (sym l.keeps.stands.1) tt)
+        (subst (λ (c : Progress). IsOwn setup.site a (Faulty (l.keeps.stands.0 ++ []) st) c) (sym l.keeps.stands.1) tt)
         (omega (arith, few_came l.trail l.keeps.stands.0 t (stages_in l.now) l.keeps.stands.3 l.keeps.few, length-append l.keeps.stands.0 []))
-        (subst (λ (c : Course). Settles setup.site a (Faulty (l.keeps.stands.0 ++ []) st) c (reply_text st Nothing None true, false)) (sym l.keeps.stands.1) (l.keeps.stands.2, refl))
-        (ap (λ (c : Course). said_so_far a c ++ reply_text st Nothing None true) l.keeps.stands.1 ∙ ap (λ z. z ++ reply_text st Nothing None true) (append-nil (greeting a Fresh))
-        ∙ ap (λ (c : Course). greeting a c ++ reply_text st Nothing None true) (sym l.keeps.stands.1))))
+        (subst (λ (c : Progress). Settles setup.site a (Faulty (l.keeps.stands.0 ++ []) st) c (reply_text st Nothing None true, false)) (sym l.keeps.stands.1) (l.keeps.stands.2, refl))
+        (ap (λ (c : Progress). said_so_far a c ++ reply_text st Nothing None true) l.keeps.stands.1 ∙ ap (λ z. z ++ reply_text st Nothing None true) (append-nil (greeting a NotStarted))
+        ∙ ap (λ (c : Progress). greeting a c ++ reply_text st Nothing None true) (sym l.keeps.stands.1))))
     go x h said l (inr y) = stops_early a (Skipping t) b x h said l l.keeps.stands.1 n y
 
 -- the input ended within a body that is dropped
@@ -222,10 +222,10 @@ skip_ends {s} a t b x h said l ended n y =
     (subst (λ (d : Deeds). LeadsTo s true phase.Over b x d (said ++ [])) (append-nil h)
     (ends_open a (Skipping t) [] (l.keeps.stands.0 ++ []) [] [] b b x h said l
     (l.keeps.stands.3 (b ++ []) ∙ ap (λ z. with_data l.keeps.stands.0 (cut_of t z)) (append-nil b) ∙ ap (λ (c : BodyCut). with_data l.keeps.stands.0 c) ended) tt
-    (subst (λ (c : Course). IsOwn s.base a (Unended (l.keeps.stands.0 ++ []) true) c) (sym l.keeps.stands.1) tt)
+    (subst (λ (c : Progress). IsOwn s.base a (Unended (l.keeps.stands.0 ++ []) true) c) (sym l.keeps.stands.1) tt)
     (omega (arith, few_came l.trail l.keeps.stands.0 t (stages_in l.now) l.keeps.stands.3 l.keeps.few, length-append l.keeps.stands.0 []))
-    (subst (λ (c : Course). Settles s.base a (Unended (l.keeps.stands.0 ++ []) true) c ([], false)) (sym l.keeps.stands.1) (refl, l.keeps.stands.2, refl))
-    (ap (λ (c : Course). said_so_far a c ++ []) l.keeps.stands.1 ∙ ap (λ z. z ++ []) (append-nil (greeting a Fresh)) ∙ ap (λ (c : Course). greeting a c ++ []) (sym l.keeps.stands.1))))
+    (subst (λ (c : Progress). Settles s.base a (Unended (l.keeps.stands.0 ++ []) true) c ([], false)) (sym l.keeps.stands.1) (refl, l.keeps.stands.2, refl))
+    (ap (λ (c : Progress). said_so_far a c ++ []) l.keeps.stands.1 ∙ ap (λ z. z ++ []) (append-nil (greeting a NotStarted)) ∙ ap (λ (c : Progress). greeting a c ++ []) (sym l.keeps.stands.1))))
 
 -- The input ended within a body that is dropped: so does the connection.
 pub skip_stops : {D : Type 0} (gives : D → Event → Answer → D → Type 0) (setup : Setup) (e : Bool) (a : Asked) (t : Transfer) (b : List ℕ) (old : D) (n : Next)

@@ -3,25 +3,25 @@ use Rattle.std.proofs.Common.{◌≡◌, ◌≤◌, inl, inr, ℕ, Bool, true, f
 use Rattle.gs_event.specs.Phases as phase
 use Rattle.gs_verdict.specs.declared.verdicts.Asked.{Asked}
 use Rattle.gs_stream.specs.Requests.{Request, Denied, Asks, Breaks, Waits, requests}
-use Rattle.gs_talk.specs.Courses.{Move, Short, Course, Fresh, Wrong}
-use Rattle.gs_talk.specs.Moves.{course}
+use Rattle.gs_talk.specs.Progress.{Move, Short, Progress, NotStarted, Wrong}
+use Rattle.gs_talk.specs.Moves.{progress}
 use Rattle.gs_talk.specs.Replies.{BodyState, Whole, Faulty, Unended, Said, Settles}
 use Rattle.gs_talk.specs.Seats.{Deeds, SeatPhase, phase_in}
 use Rattle.gs_talk.specs.Logs.{Server, Log, AreProper, AnswersAsk, Answered, AnswersAll, IsRight, InHand, Talk, deeds_of, deeds}
 use Rattle.gs_talk.proofs.LogLemmas.{Leaves, entry}
 use Rattle.gs_session.proofs.AllowLemmas.{AreAllowed, allowed-append, moves_allowed}
 
-proper_allowed : (s : Server) (a : Asked) (b : BodyState) (ms : List Move) → 1 ≤ s.piece → AreProper s a b ms → IsRight (course a Fresh ms)
+proper_allowed : (s : Server) (a : Asked) (b : BodyState) (ms : List Move) → 1 ≤ s.piece → AreProper s a b ms → IsRight (progress a NotStarted ms)
     → AreAllowed phase.Idle (deeds_of ms)
-proper_allowed s a b ms few k h = moves_allowed a s.piece Fresh ms few k.0 tt h
+proper_allowed s a b ms few k h = moves_allowed a s.piece NotStarted ms few k.0 tt h
 
--- a course that settles a request is right
-settled_right : (base : List ℕ) (a : Asked) (b : BodyState) (c : Course) (t : Said) → Settles base a b c t → IsRight c
+-- where a request is settled, its progress is right
+settled_right : (base : List ℕ) (a : Asked) (b : BodyState) (c : Progress) (t : Said) → Settles base a b c t → IsRight c
 settled_right base a b Wrong t s = absurd s
 settled_right base a b c t s = tt
 
 ask_allowed : (s : Server) (a : Asked) (b : BodyState) (ms : List Move) (t : Said) → 1 ≤ s.piece → AnswersAsk s a b ms t → AreAllowed phase.Idle (deeds_of ms)
-ask_allowed s a b ms t few g = proper_allowed s a b ms few g.0 (settled_right s.base a b (course a Fresh ms) g.1.0 g.1.1)
+ask_allowed s a b ms t few g = proper_allowed s a b ms few g.0 (settled_right s.base a b (progress a NotStarted ms) g.1.0 g.1.1)
 
 -- an entry
 entry_allowed : (s : Server) (ended : Bool) (r : Request) (ms : List Move) (t : Said) → 1 ≤ s.piece → Answered s ended r ms t → AreAllowed phase.Idle (deeds_of ms)

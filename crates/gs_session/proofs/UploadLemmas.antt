@@ -17,8 +17,8 @@ use Rattle.gs_upload.specs.Readers.{IsFedText}
 use Rattle.gs_verdict.specs.declared.verdicts.Asked.{Asked}
 use Rattle.gs_stream.specs.Requests.{by_body, requests}
 use Rattle.gs_talk.specs.Bodies.{document_language, text_base}
-use Rattle.gs_talk.specs.Courses.{Did, Course, Writing, Lacking, Memory}
-use Rattle.gs_talk.specs.Moves.{course_after, at_stage}
+use Rattle.gs_talk.specs.Progress.{Did, Progress, UploadOpen, Lacking, Memory}
+use Rattle.gs_talk.specs.Moves.{progress_after, at_stage}
 use Rattle.gs_talk.specs.Seats.{Deeds}
 use Rattle.gs_talk.specs.Replies.{said_so_far}
 use Rattle.gs_talk.specs.Logs.{Server, stages_in}
@@ -41,8 +41,8 @@ with-bytes : (d f : List ℕ) (c : BodyCut) → with_data (d ++ f) c ≡ with_da
 with-bytes d f c = ap (λ z. record { bytes = z; end = c.end }) (append_assoc d f c.bytes)
 
 -- the trail of a body of which so much came
-abbrev pub part_trail : List ℕ → Transfer → Course → Trail
-part_trail done t c = record { cut = λ z. with_data done (cut_of t z); course = c }
+abbrev pub part_trail : List ℕ → Transfer → Progress → Trail
+part_trail done t c = record { cut = λ z. with_data done (cut_of t z); progress = c }
 
 -- more of a body came
 pub seam : (t : Trail) (done bytes b : List ℕ) (old new : Transfer) (n : ℕ) → IsCutBy t done old → GivesData old new b bytes n → (y : List ℕ) → with_data (done ++ bytes) (cut_of new (drop n b ++ y)) ≡ t.cut (b ++ y)
@@ -57,12 +57,12 @@ pub reads_on : {s : Server} {e : Bool} (a : Asked) (k k2 : Reading TextReader) (
     → GivesData t t2 b bytes n → Reads k k2 bytes [] → LeadsTo s e (Serving a (Uploading k2 t2)) (drop n b) x h said
 reads_on {s} a k k2 t t2 bytes b x n h said l p r =
     let g = l.keeps.stands in
-    silent (Serving a (Uploading k t)) (Serving a (Uploading k2 t2)) b (drop n b) x h said l (part_trail (g.done ++ bytes) t2 (Writing g.request g.staged))
+    silent (Serving a (Uploading k t)) (Serving a (Uploading k2 t2)) b (drop n b) x h said l (part_trail (g.done ++ bytes) t2 (UploadOpen g.request g.staged))
     (λ y. ap (λ (c : BodyCut). by_body (requests s.base) a c) (seam l.trail g.done bytes b t t2 n g.cut p y))
     (record {
       suits = l.keeps.suits;
       came = l.keeps.came ∙ g.stands;
-      said = l.keeps.said ∙ ap (λ (c : Course). said_so_far a c) g.stands;
+      said = l.keeps.said ∙ ap (λ (c : Progress). said_so_far a c) g.stands;
       few = λ z. omega (arith, g.few, longer g.done bytes (cut_of t2 z));
       stands = record {
         request = g.request;
@@ -85,8 +85,8 @@ stage_leads {s} {e} a k k2 t t2 bytes b x n h said l p some v full r answer m o 
     g : IsReading s.base a k t l.trail (stages_in l.now)
     g = l.keeps.stands
 
-    same : said_so_far a l.trail.course ++ [] ≡ said_so_far a (Writing g.request (g.staged ++ v.items))
-    same = append-nil (said_so_far a l.trail.course) ∙ ap (λ (c : Course). said_so_far a c) g.stands
+    same : said_so_far a l.trail.progress ++ [] ≡ said_so_far a (UploadOpen g.request (g.staged ++ v.items))
+    same = append-nil (said_so_far a l.trail.progress) ∙ ap (λ (c : Progress). said_so_far a c) g.stands
 
     few : (z : List ℕ) → stages_in l.now + 1 ≤ length (with_data (g.done ++ bytes) (cut_of t2 z)).bytes + 1
     few z = omega (arith, g.few, longer g.done bytes (cut_of t2 z))
@@ -95,9 +95,9 @@ stage_leads {s} {e} a k k2 t t2 bytes b x n h said l p some v full r answer m o 
     go [] is full answer o = absurd (full refl)
     go (u ∷ us) is full Staged o =
         to_next m (Serving a (Uploading k2 t2)) [] (drop n b) x (h ++ (act.Stage v, Staged) ∷ []) said o
-        (moved a (Uploading k t) (Uploading k2 t2) (Did (act.Stage v) Staged ∷ []) [] b (drop n b) x h said l (part_trail (g.done ++ bytes) t2 (Writing g.request (g.staged ++ v.items)))
+        (moved a (Uploading k t) (Uploading k2 t2) (Did (act.Stage v) Staged ∷ []) [] b (drop n b) x h said l (part_trail (g.done ++ bytes) t2 (UploadOpen g.request (g.staged ++ v.items)))
         (seam l.trail g.done bytes b t t2 n g.cut p) (tt, tt)
-        (ap (λ (c : Course). course_after a c (Did (act.Stage v) Staged)) g.stands ∙ ap (λ w. at_stage g.request g.staged w Staged) is ∙ ap (λ w. Writing g.request (g.staged ++ w)) (sym is))
+        (ap (λ (c : Progress). progress_after a c (Did (act.Stage v) Staged)) g.stands ∙ ap (λ w. at_stage g.request g.staged w Staged) is ∙ ap (λ w. UploadOpen g.request (g.staged ++ w)) (sym is))
         same few
         (record {
           request = g.request;
@@ -110,10 +110,10 @@ stage_leads {s} {e} a k k2 t t2 bytes b x n h said l p some v full r answer m o 
         }))
     go (u ∷ us) is full (Refused why.NoMemory) o =
         to_next m (Serving a (Failing want.Memory)) [] (drop n b) x (h ++ (act.Stage v, Refused why.NoMemory) ∷ []) said o
-        (moved a (Uploading k t) (Failing want.Memory) (Did (act.Stage v) (Refused why.NoMemory) ∷ []) [] b (drop n b) x h said l (part_trail (g.done ++ bytes) t2 (Lacking (Writing g.request g.staged) Memory))
+        (moved a (Uploading k t) (Failing want.Memory) (Did (act.Stage v) (Refused why.NoMemory) ∷ []) [] b (drop n b) x h said l (part_trail (g.done ++ bytes) t2 (Lacking (UploadOpen g.request g.staged) Memory))
         (seam l.trail g.done bytes b t t2 n g.cut p) (tt, tt)
-        (ap (λ (c : Course). course_after a c (Did (act.Stage v) (Refused why.NoMemory))) g.stands ∙ ap (λ w. at_stage g.request g.staged w (Refused why.NoMemory)) is)
-        same few (Writing g.request g.staged, refl, tt))
+        (ap (λ (c : Progress). progress_after a c (Did (act.Stage v) (Refused why.NoMemory))) g.stands ∙ ap (λ w. at_stage g.request g.staged w (Refused why.NoMemory)) is)
+        same few (UploadOpen g.request g.staged, refl, tt))
     go (u ∷ us) is full other o =
-        broke a (Uploading k t) (Did (act.Stage v) other) (Writing g.request g.staged) b (drop n b) x h said l (tt, tt) g.stands (ap (λ w. at_stage g.request g.staged w other) is) (λ o. tt)
+        broke a (Uploading k t) (Did (act.Stage v) other) (UploadOpen g.request g.staged) b (drop n b) x h said l (tt, tt) g.stands (ap (λ w. at_stage g.request g.staged w other) is) (λ o. tt)
         (λ z. omega (arith, g.few, ap (λ (c : BodyCut). length c.bytes) (g.cut z), length-append g.done (cut_of t z).bytes)) m o

@@ -25,8 +25,8 @@ use Rattle.gs_verdict.specs.declared.verdicts.Asked.{Asked}
 use Rattle.gs_stream.specs.Requests.{by_body, requests}
 use Rattle.gs_talk.specs.Plans.{Plan}
 use Rattle.gs_talk.specs.Bodies.{document_language, text_base, fault_status, States, refusal_at}
-use Rattle.gs_talk.specs.Courses.{Short, Course, Writing, Lacking, Memory}
-use Rattle.gs_talk.specs.Moves.{first, course_after}
+use Rattle.gs_talk.specs.Progress.{Short, Progress, UploadOpen, Lacking, Memory}
+use Rattle.gs_talk.specs.Moves.{first, progress_after}
 use Rattle.gs_talk.specs.Seats.{Deeds}
 use Rattle.gs_talk.specs.Replies.{said_so_far, greeting}
 use Rattle.gs_talk.specs.Logs.{Server, stages_in}
@@ -55,8 +55,8 @@ refused_body why.TermTooLong m f = ap fault_status f
 refused_body other m f = absurd f
 
 -- An upload that is open is cancelled as a whole.
-pub open_writing : (a : Asked) (r : ℕ) (g : List RdfTriple) → IsOpenAt a (Writing r g) r
-open_writing a r g = record { cancels = λ answer. refl; own = λ base o. tt; greeted = append-nil (greeting a (Writing r g)); lines = refl }
+pub open_writing : (a : Asked) (r : ℕ) (g : List RdfTriple) → IsOpenAt a (UploadOpen r g) r
+open_writing a r g = record { cancels = λ answer. refl; own = λ base o. tt; greeted = append-nil (greeting a (UploadOpen r g)); lines = refl }
 
 -- lists by their test
 
@@ -93,10 +93,10 @@ short_leads {s} {e} a k t b c x h said l cuts f few =
     let g = l.keeps.stands in
     subst (λ (d : Deeds). LeadsTo s e (Serving a (Failing want.Memory)) c x d said) (append-nil h)
     (subst (λ z. LeadsTo s e (Serving a (Failing want.Memory)) c x (h ++ []) z) (append-nil said)
-    (moved a (Uploading k t) (Failing want.Memory) (Short ∷ []) [] b c x h said l (record { cut = cuts; course = Lacking (Writing g.request g.staged) Memory }) f tt
-    (ap (λ (d : Course). course_after a d Short) g.stands)
-    (append-nil (said_so_far a l.trail.course) ∙ ap (λ (d : Course). said_so_far a d) g.stands)
-    few (Writing g.request g.staged, refl, tt)))
+    (moved a (Uploading k t) (Failing want.Memory) (Short ∷ []) [] b c x h said l (record { cut = cuts; progress = Lacking (UploadOpen g.request g.staged) Memory }) f tt
+    (ap (λ (d : Progress). progress_after a d Short) g.stands)
+    (append-nil (said_so_far a l.trail.progress) ∙ ap (λ (d : Progress). said_so_far a d) g.stands)
+    few (UploadOpen g.request g.staged, refl, tt)))
 
 -- A piece was fed, and the list, which was empty, has what it gave.
 pub fed_by : (k k2 : Reading TextReader) (piece : List ℕ) (before given : List RdfTriple) → before ≡ [] → FeedsPiece meaning_of_text LeadsText is_closed_text k k2 piece before given → Reads k k2 piece given
@@ -174,12 +174,12 @@ end_staged setup e a k t b m over all y =
     passes_by setup e (Serving a (Uploading k t)) (Serving a Committing) b b m y (omega arith)
     (λ x h said l.
     let g = l.keeps.stands in
-    silent (Serving a (Uploading k t)) (Serving a Committing) b b x h said l (whole_trail g.done (Writing g.request g.staged))
+    silent (Serving a (Uploading k t)) (Serving a Committing) b b x h said l (whole_trail g.done (UploadOpen g.request g.staged))
     (λ y. ap (λ (c : BodyCut). by_body (requests setup.site) a c) (sym (whole_at a k t b x h said l over y)))
     (record {
       suits = l.keeps.suits;
       came = l.keeps.came ∙ g.stands;
-      said = l.keeps.said ∙ ap (λ (c : Course). said_so_far a c) g.stands;
+      said = l.keeps.said ∙ ap (λ (c : Progress). said_so_far a c) g.stands;
       few = λ z. omega (arith, g.few);
       stands = (g.request, g.done, g.staged, refl, subst (λ (ts : List RdfTriple). States setup.site a g.request g.done ts) (append-nil g.staged) (states a k t b x h said l [] all), λ z. refl);
     }) (λ i. i))
@@ -204,7 +204,7 @@ end_faulty gives setup e a k t b fault old new m over first d =
     let g = l.keeps.stands in
     let is = upload_plan a l.now g.request g.staged (l.keeps.came ∙ g.stands) in
     let means = meaning_in (document_language a.body) (text_base setup.site a.graph) g.request in
-    drop_leads a (Uploading k t) (Writing g.request g.staged) g.request 400 answer b x h said g.done l g.stands (open_writing a g.request g.staged) (whole_at a k t b x h said l over)
+    drop_leads a (Uploading k t) (UploadOpen g.request g.staged) g.request 400 answer b x h said g.done l g.stands (open_writing a g.request g.staged) (whole_at a k t b x h said l over)
     (ap (λ (p : Plan). refusal_at setup.site a p g.request g.done) is.2 ∙ refused_body fault (means g.done) (first means g.done g.staged g.fed)) m o) d
 
 -- The transfer of the body has a fault: the upload is cancelled, and the reply says so.
@@ -214,7 +214,7 @@ transfer_faulty gives setup e a k t b st old new m faulty d =
     made_by gives setup e (Serving a (Uploading k t)) b b old new act.Cancel m (λ answer. AfterCancel st true answer m)
     (λ answer o x h said l.
     let g = l.keeps.stands in
-    fault_leads a (Uploading k t) (Writing g.request g.staged) g.request st (g.done ++ []) answer b x h said l g.stands (open_writing a g.request g.staged)
+    fault_leads a (Uploading k t) (UploadOpen g.request g.staged) g.request st (g.done ++ []) answer b x h said l g.stands (open_writing a g.request g.staged)
     (λ y. g.cut (b ++ y) ∙ ap (λ (c : BodyCut). with_data g.done c) (faulty y)) m o) d
 
 -- The input ended in the body: the upload is cancelled.
@@ -225,5 +225,5 @@ input_ended {D} gives setup e a k t b old new m f open_at d =
     (made_by gives setup true (Serving a (Uploading k t)) b b old new act.Cancel m (λ answer. Stops m)
     (λ answer o x h said l.
     let g = l.keeps.stands in
-    leave_leads a (Uploading k t) (Writing g.request g.staged) g.request (g.done ++ []) answer b x h said l g.stands (open_writing a g.request g.staged)
+    leave_leads a (Uploading k t) (UploadOpen g.request g.staged) g.request (g.done ++ []) answer b x h said l g.stands (open_writing a g.request g.staged)
     (g.cut (b ++ []) ∙ ap (λ (z : List ℕ). with_data g.done (cut_of t z)) (append-nil b) ∙ ap (λ (c : BodyCut). with_data g.done c) open_at) m o) d)

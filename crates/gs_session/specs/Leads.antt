@@ -1,7 +1,7 @@
 -- The histories that lead to a session's state, and what a turn adds to them.
 use Rattle.std.specs.Prelude.{◌≡◌, ℕ, Bool, true, false, List, [], ◌++◌}
 use Rattle.gs_stream.specs.Requests.{Request, requests}
-use Rattle.gs_talk.specs.Courses.{Move}
+use Rattle.gs_talk.specs.Progress.{Move}
 use Rattle.gs_talk.specs.Seats.{Deeds}
 use Rattle.gs_talk.specs.Logs.{Server, Log, AnswersAll, deeds, deeds_of, texts}
 use Rattle.gs_talk.specs.Closings.{is_closed}

@@ -12,9 +12,9 @@ use Rattle.gs_verdict.specs.declared.verdicts.Asked.{Asked}
 use Rattle.gs_verdict.specs.Checks.{limit_of}
 use Rattle.gs_stream.specs.Requests.{Request, by_body, requests}
 use Rattle.gs_talk.specs.Plans.{opens, plan_of}
-use Rattle.gs_talk.specs.Courses.{Move, Lack, Memory, Numbers, Course}
-use Rattle.gs_talk.specs.Courses as at
-use Rattle.gs_talk.specs.Moves.{course}
+use Rattle.gs_talk.specs.Progress.{Move, Lack, Memory, Numbers, Progress}
+use Rattle.gs_talk.specs.Progress as at
+use Rattle.gs_talk.specs.Moves.{progress}
 use Rattle.gs_talk.specs.Bodies.{document_language, text_base, refusal_at, States}
 use Rattle.gs_talk.specs.Replies.{said_so_far}
 use Rattle.gs_talk.specs.Logs.{Server, AllSuit, stages_in}
@@ -29,7 +29,7 @@ use Rattle.gs_session.specs.declared.phases.Phase.TheVariants.{Between, Serving,
 -- come.
 pub record Trail : Type 0 where
   pub cut : List ℕ → BodyCut
-  pub course : Course
+  pub progress : Progress
 
 -- the requests that are still to be answered, by the bytes that are not used yet
 abbrev pub coming : List ℕ → Phase → Trail → List ℕ → List Request
@@ -60,27 +60,27 @@ pub record IsReading (base : List ℕ) (a : Asked) (k : Reading TextReader) (tra
   pub request : ℕ
   pub done : List ℕ
   pub staged : List RdfTriple
-  pub stands : t.course ≡ at.Writing request staged
+  pub stands : t.progress ≡ at.UploadOpen request staged
   pub fed : IsFedText k (meaning_in (document_language a.body) (text_base base a.graph) request) done staged
   pub cut : IsCutBy t done transfer
   pub few : stages ≤ length done
 
 -- where the work stands
 abbrev pub WorkStands : List ℕ → Asked → Work → Trail → ℕ → Type 0
-WorkStands base a (Skipping transfer) t stages = (done : List ℕ) × (t.course ≡ at.Fresh) × (opens (plan_of a) ≡ false) × IsCutBy t done transfer
-WorkStands base a Opening t stages = (t.course ≡ at.Fresh) × (opens (plan_of a) ≡ true) × ((z : List ℕ) → t.cut z ≡ body_at (limit_of a.method) a.framing z) × (stages ≡ 0)
+WorkStands base a (Skipping transfer) t stages = (done : List ℕ) × (t.progress ≡ at.NotStarted) × (opens (plan_of a) ≡ false) × IsCutBy t done transfer
+WorkStands base a Opening t stages = (t.progress ≡ at.NotStarted) × (opens (plan_of a) ≡ true) × ((z : List ℕ) → t.cut z ≡ body_at (limit_of a.method) a.framing z) × (stages ≡ 0)
 WorkStands base a (Uploading k transfer) t stages = IsReading base a k transfer t stages
-WorkStands base a Committing t stages = (r : ℕ) × (body : List ℕ) × (staged : List RdfTriple) × (t.course ≡ at.Writing r staged) × States base a r body staged × IsWholeBody t body
-WorkStands base a (Patching r body transfer) t stages = (t.course ≡ at.Patching r) × IsCutBy t body.items transfer
-WorkStands base a (Failing w) t stages = (before : Course) × (t.course ≡ at.Lacking before (lack_of w)) × WantsAfter base a w t
-WorkStands base a Sending t stages = (out : List ℕ) × (due : List ℕ) × (body : List ℕ) × (t.course ≡ at.Held out due false) × IsWholeBody t body
-WorkStands base a Cutting t stages = (out : List ℕ) × (body : List ℕ) × (t.course ≡ at.Cutting out) × IsWholeBody t body
+WorkStands base a Committing t stages = (r : ℕ) × (body : List ℕ) × (staged : List RdfTriple) × (t.progress ≡ at.UploadOpen r staged) × States base a r body staged × IsWholeBody t body
+WorkStands base a (Patching r body transfer) t stages = (t.progress ≡ at.PatchOpen r) × IsCutBy t body.items transfer
+WorkStands base a (Failing w) t stages = (before : Progress) × (t.progress ≡ at.Lacking before (lack_of w)) × WantsAfter base a w t
+WorkStands base a Sending t stages = (out : List ℕ) × (due : List ℕ) × (body : List ℕ) × (t.progress ≡ at.Streaming out due false) × IsWholeBody t body
+WorkStands base a Cutting t stages = (out : List ℕ) × (body : List ℕ) × (t.progress ≡ at.CancelDue out) × IsWholeBody t body
 
 -- the moves and the text of the request that is served
 pub record ServesRequest (s : Server) (a : Asked) (k : Work) (t : Trail) (now : List Move) (text : List ℕ) : Type 0 where
   pub suits : AllSuit s.piece (plan_of a) now
-  pub came : course a at.Fresh now ≡ t.course
-  pub said : text ≡ said_so_far a t.course
+  pub came : progress a at.NotStarted now ≡ t.progress
+  pub said : text ≡ said_so_far a t.progress
   pub few : (z : List ℕ) → stages_in now ≤ length (t.cut z).bytes + 1
   pub stands : WorkStands s.base a k t (stages_in now)
 

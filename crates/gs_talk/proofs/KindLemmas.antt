@@ -1,4 +1,4 @@
--- A course breaks only by an answer that no store gives to a session that has a seat for itself.
+-- A progress breaks only by an answer that no store gives to a session that has a seat for itself.
 use Rattle.std.proofs.Common.{◌≡◌, ◌⊎◌, inl, inr, ℕ, Bool, true, false, cond, ◌==◌, List, [], ◌∷◌, ◌++◌, Option, Some, None, MatchOption, refl, ap, Vec}
 use Rattle.std.specs.declared.alloc.Global.{Global}
 use Rattle.std.specs.List.{slice_get}
@@ -16,14 +16,14 @@ use Rattle.gs_event.specs.Views.{Totals, SeatView, FitsSeat}
 use Rattle.gs_door.specs.Kinds.{IsOfKind}
 use Rattle.gs_verdict.specs.declared.verdicts.Asked.{Asked}
 use Rattle.gs_talk.specs.Plans.{Plan, Uploads, Patches, Deletes, Looks, Reads, plan_of}
-use Rattle.gs_talk.specs.Courses.{Move, Did, Short, Course, Fresh, Early, Writing, Patching, Lacking, Late, Dropped, Wrote, Patched, Erased, Looked, Missing, Held, Cutting, Cut, Left, Mute, Misanswered}
-use Rattle.gs_talk.specs.Moves.{first, writing, patching, held, ready, course_after, course, at_open, at_open_patch, at_delete, at_head, at_pin, at_stage, course_at_commit, at_commit_patch, at_piece, at_cancel}
+use Rattle.gs_talk.specs.Progress.{Move, Did, Short, Progress, NotStarted, Early, UploadOpen, PatchOpen, Lacking, Late, Dropped, Wrote, Patched, Erased, Looked, Missing, Streaming, CancelDue, Cut, Left, Mute, Misanswered}
+use Rattle.gs_talk.specs.Moves.{first, writing, patching, held, ready, progress_after, progress, at_open, at_open_patch, at_delete, at_head, at_pin, at_stage, progress_at_commit, at_commit_patch, at_piece, at_cancel}
 use Rattle.gs_talk.specs.Seats.{Deeds}
 use Rattle.gs_talk.specs.Logs.{deed_of, deeds_of}
 use Rattle.gs_talk.specs.Laws.{is_misfit, HasMisfit, AreOfKind}
 
 -- the door gave an answer that it should not
-abbrev pub IsBroken : Course → Type 0
+abbrev pub IsBroken : Progress → Type 0
 IsBroken (Misanswered c) = Unit {0}
 IsBroken (Mute c) = IsBroken c
 IsBroken c = ⊥
@@ -77,7 +77,7 @@ head_misfit v (phase.Writing j r g w) u answer f b = absurd f
 head_misfit v (phase.Patching t r w) u answer f b = absurd f
 head_misfit v (phase.Reading l) u answer f b = absurd f
 
-pinned_stands : (out : List ℕ) (s number : ℕ) (b : Bool) → IsBroken (cond b (Held [] out false) (Missing s number)) → ⊥
+pinned_stands : (out : List ℕ) (s number : ℕ) (b : Bool) → IsBroken (cond b (Streaming [] out false) (Missing s number)) → ⊥
 pinned_stands out s number true b = b
 pinned_stands out s number false b = b
 
@@ -101,7 +101,7 @@ stage_misfit v (phase.Writing j i h w) r g (u ∷ us) ts answer f b = absurd f
 stage_misfit v (phase.Patching t i w) r g (u ∷ us) ts answer f b = absurd f
 stage_misfit v (phase.Reading l) r g (u ∷ us) ts answer f b = absurd f
 
-commit_misfit : (v : Totals) (p : SeatView) (r : ℕ) (g : List RdfTriple) (answer : Answer) → FitsSeat v p Commit answer → IsBroken (course_at_commit r g answer) → is_misfit answer ≡ true
+commit_misfit : (v : Totals) (p : SeatView) (r : ℕ) (g : List RdfTriple) (answer : Answer) → FitsSeat v p Commit answer → IsBroken (progress_at_commit r g answer) → is_misfit answer ≡ true
 commit_misfit v p r g (Status s name number) f b = absurd b
 commit_misfit v p r g (Refused why.NoMemory) f b = absurd b
 commit_misfit v p r g (Refused why.LastNumber) f b = absurd b
@@ -133,7 +133,7 @@ piece_misfit v (phase.Writing j i h w) n out due answer f b = absurd f
 piece_misfit v (phase.Patching t i w) n out due answer f b = absurd f
 piece_misfit v (phase.Reading l) n out due answer f b = absurd f
 
-cancel_misfit : (v : Totals) (p : SeatView) (c d : Course) (answer : Answer) → (IsBroken d → ⊥) → FitsSeat v p Cancel answer → IsBroken (at_cancel c d answer) → is_misfit answer ≡ true
+cancel_misfit : (v : Totals) (p : SeatView) (c d : Progress) (answer : Answer) → (IsBroken d → ⊥) → FitsSeat v p Cancel answer → IsBroken (at_cancel c d answer) → is_misfit answer ≡ true
 cancel_misfit v p c d Cancelled n f b = absurd (n b)
 cancel_misfit v p c d (Refused why.WrongPhase) n f b = refl
 cancel_misfit v p c d (Refused why.BadSeat) n f b = refl
@@ -142,7 +142,7 @@ cancel_misfit v (phase.Writing j i h w) c d answer n f b = absurd f
 cancel_misfit v (phase.Patching t i w) c d answer n f b = absurd f
 cancel_misfit v (phase.Reading l) c d answer n f b = absurd f
 
-cancelled : (s : ℕ) (c d : Course) (answer : Answer) → (IsBroken d → ⊥) → IsOfKind (Seat s Cancel) answer → IsBroken (at_cancel c d answer) → is_misfit answer ≡ true
+cancelled : (s : ℕ) (c d : Progress) (answer : Answer) → (IsBroken d → ⊥) → IsOfKind (Seat s Cancel) answer → IsBroken (at_cancel c d answer) → is_misfit answer ≡ true
 cancelled s c d answer n k b = of_kind s Cancel answer k (λ v p f. cancel_misfit v p c d answer n f b)
 
 first_misfit : (a : Asked) (s : ℕ) (p : Plan) (m : Move) → AreOfKind s (deed_of m) → IsBroken (first a p m) → HasMisfit (deed_of m)
@@ -157,36 +157,36 @@ first_misfit a s p m o b = absurd b
 writing_misfit : (s r : ℕ) (g : List RdfTriple) (m : Move) → AreOfKind s (deed_of m) → IsBroken (writing r g m) → HasMisfit (deed_of m)
 writing_misfit s r g (Did (Stage ts) answer) o b = inl (of_kind s (Stage ts) answer o.0 (λ v p f. stage_misfit v p r g ts.items ts answer f b))
 writing_misfit s r g (Did Commit answer) o b = inl (of_kind s Commit answer o.0 (λ v p f. commit_misfit v p r g answer f b))
-writing_misfit s r g (Did Cancel answer) o b = inl (cancelled s (Writing r g) (Dropped r) answer (λ z. z) o.0 b)
+writing_misfit s r g (Did Cancel answer) o b = inl (cancelled s (UploadOpen r g) (Dropped r) answer (λ z. z) o.0 b)
 writing_misfit s r g Short o b = absurd b
 writing_misfit s r g m o b = absurd b
 
 patching_misfit : (s r : ℕ) (m : Move) → AreOfKind s (deed_of m) → IsBroken (patching r m) → HasMisfit (deed_of m)
 patching_misfit s r (Did (CommitPatch ops) answer) o b = inl (of_kind s (CommitPatch ops) answer o.0 (λ v p f. commit_patch_misfit v p r ops.items ops answer f b))
-patching_misfit s r (Did Cancel answer) o b = inl (cancelled s (Patching r) (Dropped r) answer (λ z. z) o.0 b)
+patching_misfit s r (Did Cancel answer) o b = inl (cancelled s (PatchOpen r) (Dropped r) answer (λ z. z) o.0 b)
 patching_misfit s r Short o b = absurd b
 patching_misfit s r m o b = absurd b
 
 held_misfit : (s : ℕ) (out due : List ℕ) (end : Bool) (m : Move) → AreOfKind s (deed_of m) → IsBroken (held out due end m) → HasMisfit (deed_of m)
 held_misfit s out due false (Did (Piece n) answer) o b = inl (of_kind s (Piece n) answer o.0 (λ v p f. piece_misfit v p n out due answer f b))
-held_misfit s out due false (Did Cancel answer) o b = inl (cancelled s (Held out due false) (Left (out ++ due)) answer (λ z. z) o.0 b)
+held_misfit s out due false (Did Cancel answer) o b = inl (cancelled s (Streaming out due false) (Left (out ++ due)) answer (λ z. z) o.0 b)
 held_misfit s out due false Short o b = absurd b
 held_misfit s out due true Short o b = absurd b
 held_misfit s out due end m o b = absurd b
 
-ready_misfit : (c : Course) (m : Move) → IsBroken (ready c m) → IsBroken c
+ready_misfit : (c : Progress) (m : Move) → IsBroken (ready c m) → IsBroken c
 ready_misfit c Short b = b
 ready_misfit c (Did action answer) b = absurd b
 
-after_misfit : (a : Asked) (s : ℕ) (c : Course) (m : Move) → AreOfKind s (deed_of m) → IsBroken (course_after a c m) → IsBroken c ⊎ HasMisfit (deed_of m)
-after_misfit a s Fresh m o b = inr (first_misfit a s (plan_of a) m o b)
-after_misfit a s (Writing r g) m o b = inr (writing_misfit s r g m o b)
-after_misfit a s (Patching r) m o b = inr (patching_misfit s r m o b)
+after_misfit : (a : Asked) (s : ℕ) (c : Progress) (m : Move) → AreOfKind s (deed_of m) → IsBroken (progress_after a c m) → IsBroken c ⊎ HasMisfit (deed_of m)
+after_misfit a s NotStarted m o b = inr (first_misfit a s (plan_of a) m o b)
+after_misfit a s (UploadOpen r g) m o b = inr (writing_misfit s r g m o b)
+after_misfit a s (PatchOpen r) m o b = inr (patching_misfit s r m o b)
 after_misfit a s (Lacking c l) (Did Cancel answer) o b = inr (inl (cancelled s (Lacking c l) (Late l) answer (λ z. z) o.0 b))
 after_misfit a s (Lacking c l) m o b = absurd b
-after_misfit a s (Held out due end) m o b = inr (held_misfit s out due end m o b)
-after_misfit a s (Cutting out) (Did Cancel answer) o b = inr (inl (cancelled s (Cutting out) (Cut out) answer (λ z. z) o.0 b))
-after_misfit a s (Cutting out) m o b = absurd b
+after_misfit a s (Streaming out due end) m o b = inr (held_misfit s out due end m o b)
+after_misfit a s (CancelDue out) (Did Cancel answer) o b = inr (inl (cancelled s (CancelDue out) (Cut out) answer (λ z. z) o.0 b))
+after_misfit a s (CancelDue out) m o b = absurd b
 after_misfit a s (Early l) m o b = inl (ready_misfit (Early l) m b)
 after_misfit a s (Late l) m o b = inl (ready_misfit (Late l) m b)
 after_misfit a s (Dropped r) m o b = inl (ready_misfit (Dropped r) m b)
@@ -212,14 +212,14 @@ pub kinds-rest : (s : ℕ) (d f : Deeds) → AreOfKind s (d ++ f) → AreOfKind 
 kinds-rest s [] f k = k
 kinds-rest s (d ∷ ds) f k = kinds-rest s ds f k.1
 
--- A course breaks only by such an answer.
-pub course_misfit : (a : Asked) (s : ℕ) (c : Course) (ms : List Move) → AreOfKind s (deeds_of ms) → IsBroken (course a c ms) → IsBroken c ⊎ HasMisfit (deeds_of ms)
-course_misfit a s c [] o b = inl b
-course_misfit a s c (m ∷ ms) o b = go (course_misfit a s (course_after a c m) ms (kinds-rest s (deed_of m) (deeds_of ms) o) b) where
+-- A progress breaks only by such an answer.
+pub progress_misfit : (a : Asked) (s : ℕ) (c : Progress) (ms : List Move) → AreOfKind s (deeds_of ms) → IsBroken (progress a c ms) → IsBroken c ⊎ HasMisfit (deeds_of ms)
+progress_misfit a s c [] o b = inl b
+progress_misfit a s c (m ∷ ms) o b = go (progress_misfit a s (progress_after a c m) ms (kinds-rest s (deed_of m) (deeds_of ms) o) b) where
   here : IsBroken c ⊎ HasMisfit (deed_of m) → IsBroken c ⊎ HasMisfit (deed_of m ++ deeds_of ms)
   here (inl p) = inl p
   here (inr p) = inr (misfit-append (deed_of m) (deeds_of ms) (inl p))
 
-  go : IsBroken (course_after a c m) ⊎ HasMisfit (deeds_of ms) → IsBroken c ⊎ HasMisfit (deed_of m ++ deeds_of ms)
+  go : IsBroken (progress_after a c m) ⊎ HasMisfit (deeds_of ms) → IsBroken c ⊎ HasMisfit (deed_of m ++ deeds_of ms)
   go (inl p) = here (after_misfit a s c m (kinds-front s (deed_of m) (deeds_of ms) o) p)
   go (inr p) = inr (misfit-append (deed_of m) (deeds_of ms) (inr p))

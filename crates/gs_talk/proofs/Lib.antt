@@ -1,3 +1,3 @@
-pub mod CourseLemmas
+pub mod ProgressLemmas
 pub mod KindLemmas
 pub mod LogLemmas

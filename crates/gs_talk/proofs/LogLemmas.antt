@@ -7,16 +7,16 @@ use Rattle.gs_verdict.specs.declared.verdicts.Asked.{Asked}
 use Rattle.gs_stream.specs.Requests.{Request, Denied, Asks, Breaks, Waits, requests}
 use Rattle.gs_talk.specs.Plans.{Plan, Uploads, Patches, Deletes, Looks, Reads, plan_of}
 use Rattle.gs_talk.specs.Bodies.{States, Orders}
-use Rattle.gs_talk.specs.Courses.{Move, Short, Course, Fresh, Early, Late, Dropped, Wrote, Patched, Erased, Looked, Missing, Held, Cutting, Cut, Left, Mute, Misanswered, Memory, Numbers}
-use Rattle.gs_talk.specs.Moves.{course}
+use Rattle.gs_talk.specs.Progress.{Move, Short, Progress, NotStarted, Early, Late, Dropped, Wrote, Patched, Erased, Looked, Missing, Streaming, CancelDue, Cut, Left, Mute, Misanswered, Memory, Numbers}
+use Rattle.gs_talk.specs.Moves.{progress}
 use Rattle.gs_talk.specs.Replies.{BodyState, Whole, Faulty, Unended, Said, OfWhole, IsWhole, IsOwn, IsGreeted, Settles}
 use Rattle.gs_talk.specs.Seats.{Deeds, SeatPhase, Point, phase_in, asked_in}
 use Rattle.gs_talk.specs.Logs.{Server, Log, AreProper, AllSuit, IsRight, Answered, AnswersAsk, AnswersAll, InHand, Talk, deeds_of, deeds}
 use Rattle.gs_talk.specs.Following.{phase_at, operations_at, written_by, patched_by, erased_by, looked_by, read_by}
 use Rattle.gs_talk.specs.Points.{IsAskedBy, IsPointOf, ArePointsOf}
 use Rattle.gs_talk.specs.Laws.{HasMisfit, AreOfKind, IsIdle}
-use Rattle.gs_talk.proofs.CourseLemmas.{course_follows, phase-append, operations-append}
-use Rattle.gs_talk.proofs.KindLemmas.{IsBroken, course_misfit, misfit-append, kinds-front, kinds-rest}
+use Rattle.gs_talk.proofs.ProgressLemmas.{progress_follows, phase-append, operations-append}
+use Rattle.gs_talk.proofs.KindLemmas.{IsBroken, progress_misfit, misfit-append, kinds-front, kinds-rest}
 
 -- the points of one request
 
@@ -51,14 +51,14 @@ read_points : (base : List ℕ) (a : Asked) (b : BodyState) (p : Plan) → IsWho
 read_points base a b (Reads t) o = of-whole b (λ body. Unit {0}) _ (λ body s. refl) o
 read_points base a b p o = tt
 
-own_points : (base : List ℕ) (a : Asked) (b : BodyState) (p : Plan) (c : Course) → IsOwn base a b c → OwnPoints base a b p (operations_at p c)
+own_points : (base : List ℕ) (a : Asked) (b : BodyState) (p : Plan) (c : Progress) → IsOwn base a b c → OwnPoints base a b p (operations_at p c)
 own_points base a b p (Wrote r g s name number) o = wrote_points base a b p r g o
 own_points base a b p (Patched r ops s number) o = patched_points base a b p r ops o
 own_points base a b p (Erased s number) o = erased_points base a b p o
 own_points base a b p (Looked s number) o = looked_points base a b p o
 own_points base a b p (Missing s number) o = read_points base a b p o
-own_points base a b p (Held out due end) o = read_points base a b p o
-own_points base a b p (Cutting out) o = read_points base a b p o
+own_points base a b p (Streaming out due end) o = read_points base a b p o
+own_points base a b p (CancelDue out) o = read_points base a b p o
 own_points base a b p (Cut out) o = read_points base a b p o
 own_points base a b p (Left out) o = read_points base a b p o
 own_points base a b p (Mute c) o = own_points base a b p c o
@@ -66,10 +66,10 @@ own_points base a b p (Misanswered c) o = own_points base a b p c o
 own_points base a b p c o = tt
 
 -- the moves of a request, so far or at its end
-proper_points : (s : Server) (a : Asked) (b : BodyState) (ms : List Move) → AreProper s a b ms → IsRight (course a Fresh ms) → OwnPoints s.base a b (plan_of a) (asked_in phase.Idle (deeds_of ms))
+proper_points : (s : Server) (a : Asked) (b : BodyState) (ms : List Move) → AreProper s a b ms → IsRight (progress a NotStarted ms) → OwnPoints s.base a b (plan_of a) (asked_in phase.Idle (deeds_of ms))
 proper_points s a b ms k h =
-    subst (λ (qs : List Point). OwnPoints s.base a b (plan_of a) qs) (sym (course_follows a s.piece Fresh ms k.0 h).1)
-    (own_points s.base a b (plan_of a) (course a Fresh ms) k.1)
+    subst (λ (qs : List Point). OwnPoints s.base a b (plan_of a) qs) (sym (progress_follows a s.piece NotStarted ms k.0 h).1)
+    (own_points s.base a b (plan_of a) (progress a NotStarted ms) k.1)
 
 -- none, or one that this request asks
 abbrev pub RequestPoints : List ℕ → Request → List Point → Type 0
@@ -94,12 +94,12 @@ open_points base a front ended (q ∷ (u ∷ us)) o = absurd o
 
 -- what answers a request
 
--- the seat is idle, or the course is broken and the connection ends
-abbrev pub Rests : Plan → Course → Said → Type 0
+-- the seat is idle, or the progress is broken and the connection ends
+abbrev pub Rests : Plan → Progress → Said → Type 0
 Rests p c t = (phase_at p c ≡ phase.Idle) ⊎ (IsBroken c × (t.1 ≡ false))
 
-settled : (base : List ℕ) (a : Asked) (b : BodyState) (p : Plan) (c : Course) (t : Said) → Settles base a b c t → IsRight c × Rests p c t
-settled base a b p Fresh t s = (tt, inl refl)
+settled : (base : List ℕ) (a : Asked) (b : BodyState) (p : Plan) (c : Progress) (t : Said) → Settles base a b c t → IsRight c × Rests p c t
+settled base a b p NotStarted t s = (tt, inl refl)
 settled base a b p (Early Memory) t s = (tt, inl refl)
 settled base a b p (Early Numbers) t s = (tt, inl refl)
 settled base a b p (Late Memory) t s = (tt, inl refl)
@@ -110,7 +110,7 @@ settled base a b p (Patched r ops st number) t s = (tt, inl refl)
 settled base a b p (Erased st number) t s = (tt, inl refl)
 settled base a b p (Looked st number) t s = (tt, inl refl)
 settled base a b p (Missing st number) t s = (tt, inl refl)
-settled base a b p (Held out due true) t s = (tt, inl refl)
+settled base a b p (Streaming out due true) t s = (tt, inl refl)
 settled base a b p (Cut out) t s = (tt, inl refl)
 settled base a b p (Mute c) t s = (tt, go (settled base a b p c s.0.0 s.0.1).1) where
   go : Rests p c s.0.0 → Rests p (Mute c) t
@@ -128,27 +128,27 @@ pub record IsSettled (base : List ℕ) (r : Request) (ms : List Move) (t : Said)
   pub points : RequestPoints base r (asked_in phase.Idle (deeds_of ms))
   pub rests : Leaves ms t
 
-never : (a : Asked) (seat : ℕ) (ms : List Move) → IsBroken (course a Fresh ms) → AreOfKind seat (deeds_of ms) → HasMisfit (deeds_of ms)
-never a seat ms b k = go (course_misfit a seat Fresh ms k b) where
-  go : IsBroken Fresh ⊎ HasMisfit (deeds_of ms) → HasMisfit (deeds_of ms)
+never : (a : Asked) (seat : ℕ) (ms : List Move) → IsBroken (progress a NotStarted ms) → AreOfKind seat (deeds_of ms) → HasMisfit (deeds_of ms)
+never a seat ms b k = go (progress_misfit a seat NotStarted ms k b) where
+  go : IsBroken NotStarted ⊎ HasMisfit (deeds_of ms) → HasMisfit (deeds_of ms)
   go (inl p) = absurd p
   go (inr p) = p
 
 ask_rests : (s : Server) (a : Asked) (b : BodyState) (ms : List Move) (t : Said) → AnswersAsk s a b ms t → Leaves ms t
-ask_rests s a b ms t g = go (settled s.base a b (plan_of a) (course a Fresh ms) g.1.0 g.1.1) where
-  goes : IsGreeted a (course a Fresh ms) g.1.0 t → t.1 ≡ g.1.0.1
+ask_rests s a b ms t g = go (settled s.base a b (plan_of a) (progress a NotStarted ms) g.1.0 g.1.1) where
+  goes : IsGreeted a (progress a NotStarted ms) g.1.0 t → t.1 ≡ g.1.0.1
   goes (inl z) = ap (λ (u : Said). u.1) z
   goes (inr z) = ap (λ (u : Said). u.1) z.1
 
-  rest : IsRight (course a Fresh ms) → Rests (plan_of a) (course a Fresh ms) g.1.0 → Leaves ms t
-  rest h (inl e) = inl ((course_follows a s.piece Fresh ms g.0.0 h).0 ∙ e)
+  rest : IsRight (progress a NotStarted ms) → Rests (plan_of a) (progress a NotStarted ms) g.1.0 → Leaves ms t
+  rest h (inl e) = inl ((progress_follows a s.piece NotStarted ms g.0.0 h).0 ∙ e)
   rest h (inr e) = inr (λ seat o. never a seat ms e.0 o, goes g.1.2 ∙ e.1)
 
-  go : IsRight (course a Fresh ms) × Rests (plan_of a) (course a Fresh ms) g.1.0 → Leaves ms t
+  go : IsRight (progress a NotStarted ms) × Rests (plan_of a) (progress a NotStarted ms) g.1.0 → Leaves ms t
   go k = rest k.0 k.1
 
 ask_points : (s : Server) (a : Asked) (b : BodyState) (ms : List Move) (t : Said) → AnswersAsk s a b ms t → OwnPoints s.base a b (plan_of a) (asked_in phase.Idle (deeds_of ms))
-ask_points s a b ms t g = proper_points s a b ms g.0 (settled s.base a b (plan_of a) (course a Fresh ms) g.1.0 g.1.1).0
+ask_points s a b ms t g = proper_points s a b ms g.0 (settled s.base a b (plan_of a) (progress a NotStarted ms) g.1.0 g.1.1).0
 
 pub entry : (s : Server) (ended : Bool) (r : Request) (ms : List Move) (t : Said) → Answered s ended r ms t → IsSettled s.base r ms t
 entry s ended (Denied d) [] t g = record { points = tt; rests = inl refl }
@@ -238,12 +238,12 @@ rests_idle s ended seat x h said o k = subst IsIdle (sym all) (log_idle s ended 
     all : h ≡ deeds k.log
     all = k.done ∙ ap (λ ms. deeds k.log ++ deeds_of ms) k.hand.0 ∙ append-nil (deeds k.log)
 
--- The seat is idle after a log and moves whose course has left it, or an answer did not fit.
+-- The seat is idle after a log and moves whose progress has left it, or an answer did not fit.
 pub talk_idle : (s : Server) (ended : Bool) (seat : ℕ) (log : Log) (rs rest : List Request) (a : Asked) (now : List Move) → AreOfKind seat (deeds log ++ deeds_of now) → AnswersAll s ended log rs rest
-    → AllSuit s.piece (plan_of a) now → IsRight (course a Fresh now) → (phase_at (plan_of a) (course a Fresh now) ≡ phase.Idle) ⊎ IsBroken (course a Fresh now) → IsIdle (deeds log ++ deeds_of now)
+    → AllSuit s.piece (plan_of a) now → IsRight (progress a NotStarted now) → (phase_at (plan_of a) (progress a NotStarted now) ≡ phase.Idle) ⊎ IsBroken (progress a NotStarted now) → IsIdle (deeds log ++ deeds_of now)
 talk_idle s ended seat log rs rest a now o g u h i = go (log_idle s ended seat log rs rest (kinds-front seat (deeds log) (deeds_of now) o) g) i
   where
-    go : IsIdle (deeds log) → (phase_at (plan_of a) (course a Fresh now) ≡ phase.Idle) ⊎ IsBroken (course a Fresh now) → IsIdle (deeds log ++ deeds_of now)
+    go : IsIdle (deeds log) → (phase_at (plan_of a) (progress a NotStarted now) ≡ phase.Idle) ⊎ IsBroken (progress a NotStarted now) → IsIdle (deeds log ++ deeds_of now)
     go (inr q) i = inr (misfit-append (deeds log) (deeds_of now) (inl q))
     go (inl q) (inr b) = inr (misfit-append (deeds log) (deeds_of now) (inr (never a seat now b (kinds-rest seat (deeds log) (deeds_of now) o))))
-    go (inl q) (inl p) = inl (phase-append phase.Idle (deeds log) (deeds_of now) ∙ ap (λ z. phase_in z (deeds_of now)) q ∙ (course_follows a s.piece Fresh now u h).0 ∙ p)
+    go (inl q) (inl p) = inl (phase-append phase.Idle (deeds log) (deeds_of now) ∙ ap (λ z. phase_in z (deeds_of now)) q ∙ (progress_follows a s.piece NotStarted now u h).0 ∙ p)

@@ -3,22 +3,22 @@ use Rattle.std.specs.Prelude.{◌≡◌, ◌⊎◌, ◌||◌, ℕ, Bool, true, f
 use Rattle.gs_verdict.specs.declared.verdicts.Asked.{Asked}
 use Rattle.gs_stream.specs.Requests.{Request, Waits}
 use Rattle.gs_talk.specs.Plans.{opens, plan_of}
-use Rattle.gs_talk.specs.Courses.{Move, Course, Fresh, Writing, Patching, Dropped}
-use Rattle.gs_talk.specs.Moves.{course}
+use Rattle.gs_talk.specs.Progress.{Move, Progress, NotStarted, UploadOpen, PatchOpen, Dropped}
+use Rattle.gs_talk.specs.Moves.{progress}
 use Rattle.gs_talk.specs.Seats.{Deeds}
 use Rattle.gs_talk.specs.Logs.{Log, Server, IsAtRest, Talk}
 
 -- nothing is due but the rest of the body: it is dropped, or what it is for was opened
-abbrev pub awaits_body : Asked → Course → Bool
-awaits_body a Fresh = not (opens (plan_of a))
-awaits_body a (Writing r g) = true
-awaits_body a (Patching r) = true
+abbrev pub awaits_body : Asked → Progress → Bool
+awaits_body a NotStarted = not (opens (plan_of a))
+awaits_body a (UploadOpen r g) = true
+awaits_body a (PatchOpen r) = true
 awaits_body a (Dropped r) = true
 awaits_body a c = false
 
 -- the request at hand, if there is one, awaits its body
 abbrev pub AwaitsBody : List Request → List Move → Type 0
-AwaitsBody (Waits a front ∷ rs) now = awaits_body a (course a Fresh now) ≡ true
+AwaitsBody (Waits a front ∷ rs) now = awaits_body a (progress a NotStarted now) ≡ true
 AwaitsBody rs now = Unit {0}
 
 -- a reply closed, or the connection stopped

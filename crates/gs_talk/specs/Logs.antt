@@ -8,8 +8,8 @@ use Rattle.gs_verdict.specs.declared.verdicts.Asked.{Asked}
 use Rattle.gs_verdict.specs.declared.verdicts.Denial.{Denial}
 use Rattle.gs_stream.specs.Requests.{Request, Denied, Asks, Breaks, Waits, requests}
 use Rattle.gs_talk.specs.Plans.{Plan, Uploads, Patches, Deletes, Looks, Reads, plan_of}
-use Rattle.gs_talk.specs.Courses.{Move, Did, Short, Course, Fresh, Wrong}
-use Rattle.gs_talk.specs.Moves.{course}
+use Rattle.gs_talk.specs.Progress.{Move, Did, Short, Progress, NotStarted, Wrong}
+use Rattle.gs_talk.specs.Moves.{progress}
 use Rattle.gs_talk.specs.Replies.{BodyState, Whole, Faulty, Unended, Said, denial_reply, plain, stopped, IsGreeted, said_so_far, IsOwn, Settles, data_of}
 
 -- what was done for a request, what was said to it, and whether the connection goes on
@@ -79,11 +79,11 @@ stages_in (m ∷ ms) = stage_count m + stages_in ms
 -- What was done for a request may be done for it: the actions are its plan's; what took effect is what it asks; and there is
 -- at most one Stage more than its body has bytes so far.
 abbrev pub AreProper : Server → Asked → BodyState → List Move → Type 0
-AreProper p a b ms = AllSuit p.piece (plan_of a) ms × IsOwn p.base a b (course a Fresh ms) × (stages_in ms ≤ length (data_of b) + 1)
+AreProper p a b ms = AllSuit p.piece (plan_of a) ms × IsOwn p.base a b (progress a NotStarted ms) × (stages_in ms ≤ length (data_of b) + 1)
 
 -- what was done for a request gives what was said to it
 abbrev pub AnswersAsk : Server → Asked → BodyState → List Move → Said → Type 0
-AnswersAsk p a b ms t = AreProper p a b ms × ((u : Said) × Settles p.base a b (course a Fresh ms) u × IsGreeted a (course a Fresh ms) u t)
+AnswersAsk p a b ms t = AreProper p a b ms × ((u : Said) × Settles p.base a b (progress a NotStarted ms) u × IsGreeted a (progress a NotStarted ms) u t)
 
 -- an entry is that of its request
 abbrev pub Answered : Server → Bool → Request → List Move → Said → Type 0
@@ -106,13 +106,13 @@ IsAtRest (Waits a front ∷ []) = Unit {0}
 IsAtRest rs = ⊥
 
 -- no move was one that may not be
-abbrev pub IsRight : Course → Type 0
+abbrev pub IsRight : Progress → Type 0
 IsRight Wrong = ⊥
 IsRight c = Unit {0}
 
 -- what was done and said for the request at hand so far
 abbrev pub AskInHand : Server → Asked → BodyState → List Move → List ℕ → Type 0
-AskInHand p a b now t = AreProper p a b now × IsRight (course a Fresh now) × (t ≡ said_so_far a (course a Fresh now))
+AskInHand p a b now t = AreProper p a b now × IsRight (progress a NotStarted now) × (t ≡ said_so_far a (progress a NotStarted now))
 
 -- for the first of those that are left
 abbrev pub InHand : Server → Bool → List Request → List Move → List ℕ → Type 0

@@ -1,4 +1,4 @@
--- Which reply the course of a request gives, by what its body is.
+-- Which reply the progress of a request gives, by what its body is.
 use Rattle.std.specs.Prelude.{◌≡◌, ◌⊎◌, ◌||◌, ◌==◌, ℕ, Bool, true, false, not, cond, List, [], ◌++◌, Option, Some, None}
 use Rattle.gs_http.specs.Framing.{announces}
 use Rattle.gs_term.specs.declared.names.GraphName.{GraphName}
@@ -8,7 +8,7 @@ use Rattle.gs_verdict.specs.declared.methods.Allow.{Allow}
 use Rattle.gs_reply.specs.Notices.{Notice, Nothing, Allows, Made}
 use Rattle.gs_reply.specs.Replies.{reply_text, continue_text, lines_head}
 use Rattle.gs_talk.specs.Plans.{opens, plan_of}
-use Rattle.gs_talk.specs.Courses.{Course, Fresh, Early, Late, Dropped, Wrote, Patched, Erased, Looked, Missing, Held, Cutting, Cut, Left, Mute, Misanswered, Memory, Numbers, lines_out}
+use Rattle.gs_talk.specs.Progress.{Progress, NotStarted, Early, Late, Dropped, Wrote, Patched, Erased, Looked, Missing, Streaming, CancelDue, Cut, Left, Mute, Misanswered, Memory, Numbers, lines_out}
 use Rattle.gs_talk.specs.Bodies.{refusal_at, States, Orders}
 
 -- a body is whole; its transfer has a fault, after so much data; or its rest is awaited, after so much, unless the input has ended
@@ -54,34 +54,34 @@ abbrev pub denial_reply : Denial → Said
 denial_reply d = noticed d.status (allow_notice d.allow) None d.closes
 
 -- `100 Continue` was due: the body is awaited, and what is to come before it has come
-abbrev pub is_greeted : Asked → Course → Bool
-is_greeted a Fresh = not (opens (plan_of a))
+abbrev pub is_greeted : Asked → Progress → Bool
+is_greeted a NotStarted = not (opens (plan_of a))
 is_greeted a (Early l) = false
 is_greeted a (Mute c) = is_greeted a c
 is_greeted a (Misanswered c) = is_greeted a c
 is_greeted a c = true
 
 -- what is said before the reply
-abbrev pub greeting : Asked → Course → List ℕ
+abbrev pub greeting : Asked → Progress → List ℕ
 greeting a c = cond a.awaits_continue (cond (is_greeted a c) continue_text []) []
 
 -- what was said, or is due, while the request goes on
-abbrev pub said_so_far : Asked → Course → List ℕ
+abbrev pub said_so_far : Asked → Progress → List ℕ
 said_so_far a c = greeting a c ++ lines_out c
 
 -- with the greeting before it
-abbrev pub greeted : Asked → Course → Said → Said
+abbrev pub greeted : Asked → Progress → Said → Said
 greeted a c t = (greeting a c ++ t.0, t.1)
 
 -- refused before any event
-abbrev pub is_early : Course → Bool
+abbrev pub is_early : Progress → Bool
 is_early (Early l) = true
 is_early (Mute c) = is_early c
 is_early c = false
 
 -- The reply, after the greeting. Before any event memory may have been wanting for the greeting, or after it was said.
-abbrev pub IsGreeted : Asked → Course → Said → Said → Type 0
-IsGreeted a c u t = (t ≡ greeted a c u) ⊎ ((is_early c ≡ true) × (t ≡ greeted a Fresh u))
+abbrev pub IsGreeted : Asked → Progress → Said → Said → Type 0
+IsGreeted a c u t = (t ≡ greeted a c u) ⊎ ((is_early c ≡ true) × (t ≡ greeted a NotStarted u))
 
 -- nothing more, and the connection ends
 abbrev pub stopped : Said
@@ -102,14 +102,14 @@ IsWhole b = OfWhole b (λ body. Unit {0})
 
 -- What the store was asked, and did, is what the request asks: its body was whole, and the graph or the operations are its
 -- meaning. Where nothing was done, or only opened, it may be anything.
-abbrev pub IsOwn : List ℕ → Asked → BodyState → Course → Type 0
+abbrev pub IsOwn : List ℕ → Asked → BodyState → Progress → Type 0
 IsOwn base a b (Wrote r g s name number) = OfWhole b (λ body. States base a r body g)
 IsOwn base a b (Patched r ops s number) = OfWhole b (λ body. Orders base a r body ops)
 IsOwn base a b (Erased s number) = IsWhole b
 IsOwn base a b (Looked s number) = IsWhole b
 IsOwn base a b (Missing s number) = IsWhole b
-IsOwn base a b (Held out due end) = IsWhole b
-IsOwn base a b (Cutting out) = IsWhole b
+IsOwn base a b (Streaming out due end) = IsWhole b
+IsOwn base a b (CancelDue out) = IsWhole b
 IsOwn base a b (Cut out) = IsWhole b
 IsOwn base a b (Left out) = IsWhole b
 IsOwn base a b (Mute c) = IsOwn base a b c
@@ -129,9 +129,9 @@ SettlesDropped base a r (Whole body) t = (s : ℕ) × (refusal_at base a (plan_o
 SettlesDropped base a r (Faulty front s) t = t ≡ plain s true
 SettlesDropped base a r (Unended front ended) t = (ended ≡ true) × (t ≡ stopped)
 
--- The course settles the request, with this body, by this text (without the greeting).
-abbrev pub Settles : List ℕ → Asked → BodyState → Course → Said → Type 0
-Settles base a b Fresh t = SettlesUndone a b t
+-- The progress settles the request, with this body, by this text (without the greeting).
+abbrev pub Settles : List ℕ → Asked → BodyState → Progress → Said → Type 0
+Settles base a b NotStarted t = SettlesUndone a b t
 Settles base a b (Early Memory) t = t ≡ plain 503 true
 Settles base a b (Early Numbers) t = t ≡ plain 507 (ends_early a)
 Settles base a b (Late Memory) t = t ≡ plain 503 true
@@ -143,7 +143,7 @@ Settles base a b (Erased s number) t = t ≡ counted_reply s number a.closes
 Settles base a b (Looked s number) t =
     t ≡ cond (s == 200) (lines_head a.reply number a.closes, not a.closes) (counted_reply s number a.closes)
 Settles base a b (Missing s number) t = t ≡ counted_reply s number a.closes
-Settles base a b (Held out due true) t = t ≡ (out ++ due, not a.closes)
+Settles base a b (Streaming out due true) t = t ≡ (out ++ due, not a.closes)
 Settles base a b (Cut out) t = t ≡ (out, false)
 Settles base a b (Mute c) t = ((u : Said) × Settles base a b c u) × (t ≡ stopped)
 Settles base a b (Misanswered c) t = t ≡ (lines_out c, false)

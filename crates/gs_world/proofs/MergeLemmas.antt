@@ -18,7 +18,7 @@ use Rattle.gs_event.specs.Views.{SeatView, Fits, FitsSeat}
 use Rattle.gs_event.specs.Histories.{History, OpenRead, Start, IsLegal, phase_of, phase_by, operation_by, points_of, seat_view, view_of}
 use Rattle.gs_event.proofs.HistoryLemmas.{later}
 use Rattle.gs_talk.specs.Seats.{SeatPhase, Point, phase_then, phase_in, point_numbered, asked_in}
-use Rattle.gs_talk.proofs.CourseLemmas.{phase-append, operations-append}
+use Rattle.gs_talk.proofs.ProgressLemmas.{phase-append, operations-append}
 use Rattle.gs_world.specs.Happenings.{deed_at, deeds_at}
 use Rattle.gs_world.specs.Merging.{Askings, asked_at, points_by, IsMerged}
 

@@ -19,7 +19,7 @@ use Rattle.gs_event.specs.Views.{Totals, SeatView, View, Fits, FitsSeat, answers
 use Rattle.gs_event.specs.Histories.{History, Start, IsLegal, view_of}
 use Rattle.gs_model.specs.Graphs.{Graph}
 use Rattle.gs_talk.specs.Seats.{Deeds, SeatPhase, Point, phase_in, asked_in}
-use Rattle.gs_talk.proofs.CourseLemmas.{phase-append, operations-append}
+use Rattle.gs_talk.proofs.ProgressLemmas.{phase-append, operations-append}
 use Rattle.gs_world.specs.Happenings.{deed_at, deeds_at}
 use Rattle.gs_world.specs.Nodes.{brings, numbers_bringing, request_numbers, RiseFrom}
 

@@ -14,7 +14,7 @@ use Rattle.gs_stream.specs.Requests.{Request}
 use Rattle.gs_talk.specs.Seats.{Deeds, SeatPhase, phase_then, phase_in}
 use Rattle.gs_talk.specs.Logs.{Server, Talk}
 use Rattle.gs_talk.specs.Laws.{HasMisfit, AreOfKind, IsIdle}
-use Rattle.gs_talk.proofs.CourseLemmas.{phase-append}
+use Rattle.gs_talk.proofs.ProgressLemmas.{phase-append}
 use Rattle.gs_session.proofs.AllowLemmas.{AreAllowed}
 use Rattle.gs_session.proofs.TalkLemmas.{talk_allowed}
 use Rattle.gs_session.proofs.StoreLemmas.{HasPhase, allowed_fits, phase_follows, idle_view}
