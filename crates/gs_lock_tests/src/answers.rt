@@ -1,18 +1,16 @@
 //! The passes of a store that threads share get the answers of a store.
-ghost use Rattle.std.specs.Prelude.{◌≡◌, ◌<◌, [], codes};
-ghost use Rattle.crossbeam_utils.specs.Seq.{cell_view};
+ghost use Rattle.std.specs.Prelude.{◌≡◌, codes};
 ghost use Rattle.gs_core.specs.Settings.{start_at};
-ghost use Rattle.gs_pass.specs.Stamps.{keeper as keeper_of};
+ghost use Rattle.gs_shared.specs.Parts.{AreNamedBy};
 
 use gs_core::{Answer, Event, Refusal, Store};
 use gs_door::Door;
 use gs_schedules::{CONDITIONS, DATASETS, ROWS, Row};
-use gs_shared::{CountedLedger, Pass, PassDoor, Room, Shared, StampCell, Token, stamp_cell};
+use gs_shared::{CountedLedger, Pass, PassDoor, Room, Shared, SharedParts, shared_parts};
 use gs_test_events::{answered, events, printed};
 use std::alloc::{AllocError, Global};
 use std::marker::Brand;
 use std::sync::Wait;
-use std::sync::ledger::Blank;
 use std::test::Fail;
 
 /// The schedules that are fed texts, with their triples and operations in the place of the texts.
@@ -175,28 +173,12 @@ fn printed_by_new<C: CountedLedger, T: CountedLedger, B: Room, R: Wait>(
     alloc: Global,
     events: &mut Vec<Event>,
     by_doors: bool,
-    cell: StampCell,
-    keeper: Token,
-    calls: Blank,
-    triples: Blank,
+    parts: SharedParts,
 ) -> Result<String, Refusal>
-    requires cell { (cell.table.shared.table_id ≡ B.table)
-        × (keeper.table_id ≡ B.table)
-        × (cell_view keeper ≡ keeper_of [] []) }
     requires start { B.start ≡ start_at 4 (codes "http://localhost") 0 0 }
-    requires calls { (calls.name ≡ C.name) × (calls.parts ≡ C.parts) × (C.all ≡ C.parts) × (4 < C.all) }
-    requires triples { (triples.name ≡ T.name) × (triples.parts ≡ T.parts) × (T.all ≡ T.parts) × (4 < T.all) }
+    requires parts { AreNamedBy C.CountedLedger T.CountedLedger B.table 4 parts }
 {
-    let mut shared: Shared<C, T, B> = Shared::new(
-        alloc,
-        4,
-        "http://localhost",
-        0,
-        cell,
-        keeper,
-        calls,
-        triples,
-    )?;
+    let mut shared: Shared<C, T, B> = Shared::new(alloc, 4, "http://localhost", 0, parts)?;
     let text = printed_by(rt, alloc, &mut shared, events, by_doors);
     drop(shared);
     text
@@ -209,11 +191,8 @@ fn printed_by_passes<R: Wait>(
     events: &mut Vec<Event>,
     by_doors: bool,
 ) -> Result<String, Refusal> {
-    let (cell, keeper) = stamp_cell(alloc)?;
-    let (calls, triples) = (Blank::new(5), Blank::new(5));
-    printed_by_new::<Brand, Brand, Brand, R>(
-        rt, alloc, events, by_doors, cell, keeper, calls, triples,
-    )
+    let parts = shared_parts(alloc, 4)?;
+    printed_by_new::<Brand, Brand, Brand, R>(rt, alloc, events, by_doors, parts)
 }
 
 /// What these events print by a store, with the commit numbers.

@@ -1,9 +1,8 @@
 //! Four threads that write, read, patch and delete graphs of their own and one that all share, and read all
 //! of them; or count together in a graph of all; or put one long list each.
-ghost use Rattle.std.specs.Prelude.{◌≡◌, ◌<◌, [], codes};
-ghost use Rattle.crossbeam_utils.specs.Seq.{cell_view};
+ghost use Rattle.std.specs.Prelude.{◌≡◌, codes};
 ghost use Rattle.gs_core.specs.Settings.{start_at};
-ghost use Rattle.gs_pass.specs.Stamps.{keeper as keeper_of};
+ghost use Rattle.gs_shared.specs.Parts.{AreNamedBy};
 
 use crate::counts::{COUNTED, LAST, count, counts_of_puts};
 use crate::models::Model;
@@ -12,13 +11,10 @@ use crate::replays::{counts_of_all, is_replayed, is_told, read, read_all, replay
 use crate::rounds::{expected, hold, is_whole};
 use crate::uploads::{are_small, upload};
 use gs_core::Refusal;
-use gs_shared::{
-    CountedLedger, Ended, Pass, Room, Shared, SharedStore, StampCell, Token, stamp_cell,
-};
+use gs_shared::{CountedLedger, Ended, Pass, Room, Shared, SharedParts, SharedStore, shared_parts};
 use std::alloc::Global;
 use std::marker::Brand;
 use std::sync::Wait;
-use std::sync::ledger::Blank;
 use std::test::Fail;
 use std::thread;
 use std::thread::Threads;
@@ -162,33 +158,11 @@ fn run<
     T: CountedLedger + Send + Sync,
     B: Room + Send + Sync,
     R: Threads + Wait + Sync,
->(
-    rt: &R,
-    alloc: Global,
-    cell: StampCell,
-    keeper: Token,
-    calls: Blank,
-    triples: Blank,
-    task: Task,
-) -> Option<(Ended, Option<Fault>)>
-    requires cell { (cell.table.shared.table_id ≡ B.table)
-        × (keeper.table_id ≡ B.table)
-        × (cell_view keeper ≡ keeper_of [] []) }
+>(rt: &R, alloc: Global, parts: SharedParts, task: Task) -> Option<(Ended, Option<Fault>)>
     requires start { B.start ≡ start_at 4 (codes "http://localhost") 0 0 }
-    requires calls { (calls.name ≡ C.name) × (calls.parts ≡ C.parts) × (C.all ≡ C.parts) × (4 < C.all) }
-    requires triples { (triples.name ≡ T.name) × (triples.parts ≡ T.parts) × (T.all ≡ T.parts) × (4 < T.all) }
+    requires parts { AreNamedBy C.CountedLedger T.CountedLedger B.table 4 parts }
 {
-    let mut shared: Shared<C, T, B> = Shared::new(
-        alloc,
-        4,
-        "http://localhost",
-        0,
-        cell,
-        keeper,
-        calls,
-        triples,
-    )
-    .ok()?;
+    let mut shared: Shared<C, T, B> = Shared::new(alloc, 4, "http://localhost", 0, parts).ok()?;
     let Ok(passes) = shared.passes(4) else {
         drop(shared);
         return None;
@@ -212,9 +186,8 @@ fn worked<R: Threads + Wait + Sync>(
     alloc: Global,
     task: Task,
 ) -> Option<(Ended, Option<Fault>)> {
-    let (cell, keeper) = stamp_cell(alloc).ok()?;
-    let (calls, triples) = (Blank::new(5), Blank::new(5));
-    run::<Brand, Brand, Brand, R>(rt, alloc, cell, keeper, calls, triples, task)
+    let parts = shared_parts(alloc, 4).ok()?;
+    run::<Brand, Brand, Brand, R>(rt, alloc, parts, task)
 }
 
 /// Whether the ended store shows a graph as the plain model has it.

@@ -1,5 +1,5 @@
 -- Read in this order: limits, kinds as numbers, what names no cell, what tokens know of the stamps, what a pass shows, what stands
--- behind it, and what contracts see of a pass and of a register.
+-- behind it, and what contracts see of a pass and of a stamp log.
 pub mod Limits
 pub mod Kinds
 pub mod Rooms
@@ -8,4 +8,4 @@ pub mod Tallies
 pub mod Claims
 pub mod Backing
 pub mod Passes
-pub mod Registers
+pub mod StampLogs

@@ -9,8 +9,8 @@ mod passes;
 mod receipt_rooms;
 mod receipts;
 mod records;
-mod registers;
 mod rooms;
+mod stamp_logs;
 mod stamps;
 mod wholes;
 
@@ -21,7 +21,7 @@ pub use passes::Pass;
 pub use receipt_rooms::ReceiptRoom;
 pub use receipts::Receipt;
 pub use records::Record;
-pub use registers::Register;
 pub use rooms::Room;
+pub use stamp_logs::StampLog;
 pub use stamps::Stamp;
 pub use wholes::Whole;

@@ -4,7 +4,7 @@ ghost use Rattle.gs_pass.specs.Tallies.{seat_in, tally_of, Enters};
 
 use crate::receipts::{MAX_RECEIPTS, Receipt};
 
-/// What a pass was told. `Register::close` makes it of the pass.
+/// What a pass was told. `StampLog::close` makes it of the pass.
 #[derive(Debug, Drop)]
 pub struct Record {
     pub(crate) seat: u16,

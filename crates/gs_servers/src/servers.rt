@@ -1,10 +1,9 @@
 //! A server, from its first connection to its last.
-ghost use Rattle.std.specs.Prelude.{◌≡◌, ◌+◌, ◌<◌, ◌≤◌, [], ◌∷◌, ◌++◌, length, true, vec_capacity, IfOk, IfErr, IfSome};
-ghost use Rattle.crossbeam_utils.specs.Seq.{cell_view};
+ghost use Rattle.std.specs.Prelude.{◌≡◌, ◌+◌, ◌≤◌, [], ◌∷◌, ◌++◌, length, true, vec_capacity, IfOk, IfErr, IfSome};
 ghost use Rattle.gs_model.specs.Bases.{is_base};
 ghost use Rattle.gs_core.specs.Settings.{start_at};
 ghost use Rattle.gs_talk.specs.Logs.{Server};
-ghost use Rattle.gs_pass.specs.Stamps.{keeper as keeper_of};
+ghost use Rattle.gs_shared.specs.Parts.{AreNamedBy};
 ghost use Rattle.gs_shared.specs.Seats.{From, IsFreshOf};
 ghost use Rattle.gs_servers.specs.Ends.{EndsAs};
 ghost use Rattle.gs_gates.specs.Records.{IsAsBefore};
@@ -15,16 +14,13 @@ use crate::promises::{AsBefore, Served};
 use crossbeam_channel::Sender;
 use gs_gates::{Gate, accept_all, patience, reclaim, whole};
 use gs_model::Refusal;
-use gs_shared::{
-    CountedLedger, Ended, Pass, Room, Shared, SharedStore, StampCell, Token, stamp_cell,
-};
+use gs_shared::{CountedLedger, Ended, Pass, Room, Shared, SharedParts, SharedStore, shared_parts};
 use gs_workers::{ServicePlan, work};
 use std::alloc::{AllocError, Global};
 use std::marker::Brand;
 use std::net::{TcpListener, TcpStream};
 use std::random::RandomSource;
 use std::snapshot::Snapshot;
-use std::sync::ledger::Blank;
 use std::sync::{Mutex, Wait};
 use std::thread;
 use std::thread::{PromisedHandle, Threads};
@@ -147,7 +143,7 @@ fn seed_from<R: RandomSource>(rt: &R) -> u64 {
     }
 }
 
-/// As `serve_all`, by this plan, over a cell and two blanks.
+/// As `serve_all`, by this plan, over a store of these parts.
 fn run<
     C: CountedLedger + Send + Sync,
     T: CountedLedger + Send + Sync,
@@ -161,40 +157,18 @@ fn run<
     workers: u16,
     limit: Option<u64>,
     gate: &G,
-    cell: StampCell,
-    keeper: Token,
-    calls: Blank,
-    triples: Blank,
+    parts: SharedParts,
 ) -> Result<Ended, Refusal>
     requires some { 1 ≤ workers }
     requires few { workers ≤ 256 }
     requires start { B.start ≡ start_at (workers + 1) plan.base.now 0 0 }
-    requires cell { (cell.table.shared.table_id ≡ B.table)
-        × (keeper.table_id ≡ B.table)
-        × (cell_view keeper ≡ keeper_of [] []) }
-    requires calls { (calls.name ≡ C.name)
-        × (calls.parts ≡ C.parts)
-        × (C.all ≡ C.parts)
-        × (workers + 1 < C.all) }
-    requires triples { (triples.name ≡ T.name)
-        × (triples.parts ≡ T.parts)
-        × (T.all ≡ T.parts)
-        × (workers + 1 < T.all) }
+    requires parts { AreNamedBy C.CountedLedger T.CountedLedger B.table (workers + 1) parts }
     ensures refused { IfErr result (λ r. r ≡ Refusal.NoMemory) }
     ensures ended { IfOk result (EndsAs workers
         (record { base = plan.entry.base.now; piece = plan.entry.piece })) }
 {
     let seats = workers + 1;
-    let mut shared: Shared<C, T, B> = Shared::new(
-        plan.alloc,
-        seats,
-        plan.base,
-        seed_from(rt),
-        cell,
-        keeper,
-        calls,
-        triples,
-    )?;
+    let mut shared = Shared::<C, T, B>::new(plan.alloc, seats, plan.base, seed_from(rt), parts)?;
     let mut passes = shared.passes(seats)?;
     let Some(last) = passes.pop() else {
         unreachable!()
@@ -234,14 +208,10 @@ pub fn serve_within<G: Gate + Sync, R: Threads + Wait + Clock + RandomSource + S
     ensures ended { IfOk result (EndsAs workers
         (record { base = plan.entry.base.now; piece = plan.entry.piece })) }
 {
-    let Ok((cell, keeper)) = stamp_cell(plan.alloc) else {
+    let Ok(parts) = shared_parts(plan.alloc, workers + 1) else {
         return Err(Refusal::NoMemory);
     };
-    let parts = u64::from(workers) + 2;
-    let (calls, triples) = (Blank::new(parts), Blank::new(parts));
-    run::<Brand, Brand, Brand, G, R>(
-        rt, plan, listener, workers, limit, gate, cell, keeper, calls, triples,
-    )
+    run::<Brand, Brand, Brand, G, R>(rt, plan, listener, workers, limit, gate, parts)
 }
 
 /// Serves the connections that the listener accepts, over a new store with this base, by so many

@@ -6,12 +6,14 @@ mod doors;
 mod endings;
 mod limits;
 mod locked;
+mod parts;
 mod shared;
 mod shared_stores;
 
 pub use doors::PassDoor;
 pub use endings::Ended;
-pub use gs_pass::{CountedLedger, Pass, Receipt, Record, Room, StampCell, Token, stamp_cell};
+pub use gs_pass::{CountedLedger, Pass, Receipt, Record, Room};
 pub use limits::{PAGE_ENTRIES, PAGE_TRIPLES};
-pub use shared::Shared;
+pub use parts::SharedParts;
+pub use shared::{Shared, shared_parts};
 pub use shared_stores::SharedStore;

@@ -17,19 +17,19 @@ use crate::limits::{PAGE_ENTRIES, PAGE_TRIPLES};
 use gs_audit::{Audited, Form};
 use gs_event::{Answer, Event};
 use gs_model::Refusal;
-use gs_pass::{Pass, Receipt, ReceiptRoom, Register, Room, StampCell};
+use gs_pass::{Pass, Receipt, ReceiptRoom, Room, StampCell, StampLog};
 use std::sync::Wait;
 use std::sync::ledger::{Ledger, Share};
 
-/// A store with its page, and the register that ties both to the passes.
+/// A store with its page, and the stamp log that ties both to the passes.
 #[derive(Drop)]
 pub struct Locked<C: Ledger, T: Ledger, B: Room> {
     pub(crate) audited: Audited<PAGE_ENTRIES, PAGE_TRIPLES>,
-    pub(crate) register: Register<C, T, B>,
+    pub(crate) stamp_log: StampLog<C, T, B>,
     ghost began: { BeganAs B.start audited.store.view },
-    ghost tied: { IsTied (page_of audited.chronicle) (cell_view register.keeper).all },
+    ghost tied: { IsTied (page_of audited.chronicle) (cell_view stamp_log.keeper).all },
     ghost counted: { IsPageCounted page_entries page_triples (page_of audited.chronicle) (sum (staged_of audited))
-        register.calls.total register.triples.total },
+        stamp_log.calls.total stamp_log.triples.total },
 }
 
 impl<C: Ledger, T: Ledger, B: Room> Locked<C, T, B> {
@@ -48,7 +48,7 @@ impl<C: Ledger, T: Ledger, B: Room> Locked<C, T, B> {
         requires triples { (triple_share.parts ≡ 1) × (triple_share.amount ≡ 0) }
         ensures { IsFreshOf seat result.record }
     {
-        self.register
+        self.stamp_log
             .issue(cell, seat, space, call_share, triple_share)
     }
 
@@ -76,7 +76,7 @@ impl<C: Ledger, T: Ledger, B: Room> Locked<C, T, B> {
     {
         let count = asked.counted() as usize;
         let answer = self.audited.event_with(event, form, count);
-        self.register.count(pass, asked.brought(&answer));
+        self.stamp_log.count(pass, asked.brought(&answer));
         match asked.decided(&answer) {
             None => answer,
             Some((kind, status)) => {
@@ -86,7 +86,7 @@ impl<C: Ledger, T: Ledger, B: Room> Locked<C, T, B> {
                     kind,
                     status,
                 };
-                self.register.enter(rt, cell, pass, receipt);
+                self.stamp_log.enter(rt, cell, pass, receipt);
                 answer
             }
         }

@@ -1,6 +1,5 @@
 //! The lock, with what its passes are made of.
 ghost use Rattle.std.specs.Prelude.{◌≡◌, ◌↔◌, ◌+◌, ◌<◌, ◌≤◌, [], length, map, true, vec_capacity, IfOk, IfErr, OnOk, OnErr, Err};
-ghost use Rattle.crossbeam_utils.specs.Seq.{cell_view};
 ghost use Rattle.gs_model.specs.Bases.{is_base};
 ghost use Rattle.gs_model.specs.Limits.{max_seats};
 ghost use Rattle.gs_model.specs.declared.refusals.Refusal.TheVariants.{BadSeat as IsBadSeat};
@@ -8,18 +7,19 @@ ghost use Rattle.gs_audit.specs.Audits.{audited_store, audited_page};
 ghost use Rattle.gs_core.specs.Settings.{start_at};
 ghost use Rattle.gs_chronicle.specs.Views.{page_of};
 ghost use Rattle.gs_door.specs.Kinds.{IsOfKind};
-ghost use Rattle.gs_pass.specs.Stamps.{keeper as keeper_of};
+ghost use Rattle.gs_shared.specs.Parts.{AreForSeats, AreNamedBy};
 ghost use Rattle.gs_shared.specs.Seats.{BeganAs, From, IsFreshOf};
 ghost use Rattle.gs_shared.specs.Tells.{Tells};
 ghost use Rattle.gs_shared.specs.Ends.{FitOnePage, IsWithinPage, HasAllCalls, AllStand};
 
 use crate::endings::Ended;
 use crate::locked::Locked;
+use crate::parts::SharedParts;
 use crate::shared_stores::SharedStore;
 use gs_audit::Audited;
 use gs_event::{Answer, Event};
 use gs_model::Refusal;
-use gs_pass::{CountedLedger, Pass, ReceiptRoom, Record, Register, Room, StampCell, Token, Whole};
+use gs_pass::{CountedLedger, Pass, ReceiptRoom, Record, Room, StampLog, Whole, stamp_cell};
 use std::alloc::{AllocError, Global};
 use std::sync::ledger::{Blank, Share};
 use std::sync::{Mutex, Wait};
@@ -56,8 +56,8 @@ impl<C: CountedLedger, T: CountedLedger, B: Room> Shared<C, T, B> {
     /// A new store with this base, for so many seats, 1 to 512, of which no pass is handed out yet.
     /// `gs_core::is_base` tests a base. The seed spreads terms and, by doors, labels of blank nodes, and shows
     /// in nothing but time: where strangers choose these, it is a random number that is kept from them. The
-    /// cell is one of `stamp_cell`, with its token, and each blank has more parts than there are seats. The
-    /// room names that cell, and how this store begins.
+    /// parts are those of `shared_parts`, for as many seats. `C`, `T` and `B` name them, and `B` also says how
+    /// this store begins.
     ///
     /// # Errors
     ///
@@ -67,26 +67,13 @@ impl<C: CountedLedger, T: CountedLedger, B: Room> Shared<C, T, B> {
         seats: u16,
         base: &str,
         seed: u64,
-        cell: StampCell,
-        keeper: Token,
-        calls: Blank,
-        triples: Blank,
+        parts: SharedParts,
     ) -> Result<Shared<C, T, B>, Refusal>
         requires some { 1 ≤ seats }
         requires few { seats ≤ max_seats }
         requires base { is_base base.now ≡ true }
         requires start { B.start ≡ start_at seats base.now 0 0 }
-        requires cell { (cell.table.shared.table_id ≡ B.table)
-            × (keeper.table_id ≡ B.table)
-            × (cell_view keeper ≡ keeper_of [] []) }
-        requires calls { (calls.name ≡ C.name)
-            × (calls.parts ≡ C.parts)
-            × (C.all ≡ C.parts)
-            × (seats < C.all) }
-        requires triples { (triples.name ≡ T.name)
-            × (triples.parts ≡ T.parts)
-            × (T.all ≡ T.parts)
-            × (seats < T.all) }
+        requires parts { AreNamedBy C.CountedLedger T.CountedLedger B.table seats parts }
         ensures fresh { IfOk result (λ s. (seat_count s ≡ seats) × (passes_handed_out s ≡ 0)) }
         ensures refused { IfErr result (λ refusal. refusal ≡ Refusal.NoMemory) }
     {
@@ -94,8 +81,14 @@ impl<C: CountedLedger, T: CountedLedger, B: Room> Shared<C, T, B> {
         let Ok(records) = Vec::with_capacity(alloc, usize::from(seats)) else {
             return Err(Refusal::NoMemory);
         };
-        let (register, call_rest, triple_rest) = Register::new(keeper, calls, triples);
-        let locked = Locked { audited, register };
+        let SharedParts {
+            cell,
+            keeper,
+            calls,
+            triples,
+        } = parts;
+        let (stamp_log, call_rest, triple_rest) = StampLog::new(keeper, calls, triples);
+        let locked = Locked { audited, stamp_log };
         let store = SharedStore {
             cell,
             lock: Mutex::new(locked),
@@ -226,9 +219,9 @@ impl<C: CountedLedger, T: CountedLedger, B: Room> Shared<C, T, B> {
         let SharedStore { cell, lock, .. } = store;
         let Locked {
             audited,
-            mut register,
+            mut stamp_log,
         } = lock.into_inner();
-        register.close_all(
+        stamp_log.close_all(
             rt,
             &cell,
             &mut call_rest,
@@ -236,12 +229,26 @@ impl<C: CountedLedger, T: CountedLedger, B: Room> Shared<C, T, B> {
             passes,
             &mut records,
         );
-        register.audit(&mut call_rest, &mut triple_rest);
+        stamp_log.audit(&mut call_rest, &mut triple_rest);
         Ended {
             audited,
             passes: records,
         }
     }
+}
+
+/// A new cell, and two new ledgers, for a store of so many seats.
+pub fn shared_parts(alloc: Global, seats: u16) -> Result<SharedParts, AllocError>
+    ensures { IfOk result (AreForSeats seats) }
+{
+    let (cell, keeper) = stamp_cell(alloc)?;
+    let parts = u64::from(seats) + 1;
+    Ok(SharedParts {
+        cell,
+        keeper,
+        calls: Blank::new(parts),
+        triples: Blank::new(parts),
+    })
 }
 
 /// Room for so many passes, and for the receipts of each.

@@ -1,16 +1,14 @@
 //! A store has the base, the seed and the number of seats that it was made with.
-ghost use Rattle.std.specs.Prelude.{◌≡◌, ◌<◌, [], codes};
-ghost use Rattle.crossbeam_utils.specs.Seq.{cell_view};
+ghost use Rattle.std.specs.Prelude.{◌≡◌, codes};
 ghost use Rattle.gs_core.specs.Settings.{start_at};
-ghost use Rattle.gs_pass.specs.Stamps.{keeper as keeper_of};
+ghost use Rattle.gs_shared.specs.Parts.{AreNamedBy};
 
 use gs_door::Door;
 use gs_event::{Action, Answer, Event, UploadKind};
-use gs_shared::{CountedLedger, PassDoor, Room, Shared, StampCell, Token, stamp_cell};
+use gs_shared::{CountedLedger, PassDoor, Room, Shared, SharedParts, shared_parts};
 use std::alloc::Global;
 use std::marker::Brand;
 use std::sync::Wait;
-use std::sync::ledger::Blank;
 use std::test::Fail;
 
 /// The seed of the store.
@@ -52,41 +50,20 @@ fn run<
     T: CountedLedger + Send + Sync,
     B: Room + Send + Sync,
     R: Wait,
->(
-    rt: &R,
-    alloc: Global,
-    cell: StampCell,
-    keeper: Token,
-    calls: Blank,
-    triples: Blank,
-) -> Option<Answer>
-    requires cell { (cell.table.shared.table_id ≡ B.table)
-        × (keeper.table_id ≡ B.table)
-        × (cell_view keeper ≡ keeper_of [] []) }
+>(rt: &R, alloc: Global, parts: SharedParts) -> Option<Answer>
     requires start { B.start ≡ start_at 1 (codes "http://h:1") 0 0 }
-    requires calls { (calls.name ≡ C.name) × (calls.parts ≡ C.parts) × (C.all ≡ C.parts) × (1 < C.all) }
-    requires triples { (triples.name ≡ T.name) × (triples.parts ≡ T.parts) × (T.all ≡ T.parts) × (1 < T.all) }
+    requires parts { AreNamedBy C.CountedLedger T.CountedLedger B.table 1 parts }
 {
-    let mut shared: Shared<C, T, B> = Shared::new(
-        alloc,
-        1,
-        "http://h:1",
-        SEED,
-        cell,
-        keeper,
-        calls,
-        triples,
-    ).ok()?;
+    let mut shared: Shared<C, T, B> = Shared::new(alloc, 1, "http://h:1", SEED, parts).ok()?;
     let answer = create(rt, &mut shared);
     drop(shared);
     answer
 }
 
-/// The same, over a cell and ledgers of its own.
+/// The same, with what a store is made of.
 fn created<R: Wait>(rt: &R, alloc: Global) -> Option<Answer> {
-    let (cell, keeper) = stamp_cell(alloc).ok()?;
-    let (calls, triples) = (Blank::new(2), Blank::new(2));
-    run::<Brand, Brand, Brand, R>(rt, alloc, cell, keeper, calls, triples)
+    let parts = shared_parts(alloc, 1).ok()?;
+    run::<Brand, Brand, Brand, R>(rt, alloc, parts)
 }
 
 /// Whether a graph was created of this name.

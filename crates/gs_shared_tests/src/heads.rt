@@ -1,18 +1,14 @@
 //! Four threads that ask, whether or not at the same time: all their calls stand on page 0.
-ghost use Rattle.std.specs.Prelude.{◌≡◌, ◌<◌, [], codes};
-ghost use Rattle.crossbeam_utils.specs.Seq.{cell_view};
+ghost use Rattle.std.specs.Prelude.{◌≡◌, codes};
 ghost use Rattle.gs_core.specs.Settings.{start_at};
-ghost use Rattle.gs_pass.specs.Stamps.{keeper as keeper_of};
+ghost use Rattle.gs_shared.specs.Parts.{AreNamedBy};
 
 use gs_event::{Action, Event, Scope};
-use gs_shared::{
-    CountedLedger, Ended, Pass, Room, Shared, SharedStore, StampCell, Token, stamp_cell,
-};
+use gs_shared::{CountedLedger, Ended, Pass, Room, Shared, SharedParts, SharedStore, shared_parts};
 use gs_term::Target;
 use std::alloc::Global;
 use std::marker::Brand;
 use std::sync::Wait;
-use std::sync::ledger::Blank;
 use std::test::Fail;
 use std::thread;
 use std::thread::Threads;
@@ -70,32 +66,11 @@ fn run<
     T: CountedLedger + Send + Sync,
     B: Room + Send + Sync,
     R: Threads + Wait + Sync,
->(
-    rt: &R,
-    alloc: Global,
-    cell: StampCell,
-    keeper: Token,
-    calls: Blank,
-    triples: Blank,
-) -> Option<Ended>
-    requires cell { (cell.table.shared.table_id ≡ B.table)
-        × (keeper.table_id ≡ B.table)
-        × (cell_view keeper ≡ keeper_of [] []) }
+>(rt: &R, alloc: Global, parts: SharedParts) -> Option<Ended>
     requires start { B.start ≡ start_at 4 (codes "http://localhost") 0 0 }
-    requires calls { (calls.name ≡ C.name) × (calls.parts ≡ C.parts) × (C.all ≡ C.parts) × (4 < C.all) }
-    requires triples { (triples.name ≡ T.name) × (triples.parts ≡ T.parts) × (T.all ≡ T.parts) × (4 < T.all) }
+    requires parts { AreNamedBy C.CountedLedger T.CountedLedger B.table 4 parts }
 {
-    let mut shared: Shared<C, T, B> = Shared::new(
-        alloc,
-        4,
-        "http://localhost",
-        0,
-        cell,
-        keeper,
-        calls,
-        triples,
-    )
-    .ok()?;
+    let mut shared: Shared<C, T, B> = Shared::new(alloc, 4, "http://localhost", 0, parts).ok()?;
     let Ok(passes) = shared.passes(4) else {
         drop(shared);
         return None;
@@ -114,9 +89,8 @@ fn run<
 
 /// What four threads leave that ask 1,000 times each.
 fn asked<R: Threads + Wait + Sync>(rt: &R, alloc: Global) -> Option<Ended> {
-    let (cell, keeper) = stamp_cell(alloc).ok()?;
-    let (calls, triples) = (Blank::new(5), Blank::new(5));
-    run::<Brand, Brand, Brand, R>(rt, alloc, cell, keeper, calls, triples)
+    let parts = shared_parts(alloc, 4).ok()?;
+    run::<Brand, Brand, Brand, R>(rt, alloc, parts)
 }
 
 /// The names of the four passes.

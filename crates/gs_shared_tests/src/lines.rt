@@ -1,18 +1,16 @@
 //! One thread writes a graph, another reads it afterwards, or all graphs, and keeps its lines while the
 //! first puts it again.
-ghost use Rattle.std.specs.Prelude.{◌≡◌, ◌<◌, [], codes};
-ghost use Rattle.crossbeam_utils.specs.Seq.{cell_view};
+ghost use Rattle.std.specs.Prelude.{◌≡◌, codes};
 ghost use Rattle.gs_core.specs.Settings.{start_at};
-ghost use Rattle.gs_pass.specs.Stamps.{keeper as keeper_of};
+ghost use Rattle.gs_shared.specs.Parts.{AreNamedBy};
 
 use gs_event::{Action, Answer, Event, Scope, UploadKind};
-use gs_shared::{CountedLedger, Pass, Room, Shared, SharedStore, StampCell, Token, stamp_cell};
+use gs_shared::{CountedLedger, Pass, Room, Shared, SharedParts, SharedStore, shared_parts};
 use gs_term::{GraphName, Target, TermText, Triple};
 use gs_triple_lists::TripleList;
 use std::alloc::{AllocError, Global};
 use std::marker::Brand;
 use std::sync::Wait;
-use std::sync::ledger::Blank;
 use std::test::Fail;
 use std::thread;
 use std::thread::Threads;
@@ -237,33 +235,11 @@ fn run<
     T: CountedLedger + Send + Sync,
     B: Room + Send + Sync,
     R: Threads + Wait + Sync,
->(
-    rt: &R,
-    alloc: Global,
-    cell: StampCell,
-    keeper: Token,
-    calls: Blank,
-    triples: Blank,
-    reading: Reading,
-) -> Option<[bool; 4]>
-    requires cell { (cell.table.shared.table_id ≡ B.table)
-        × (keeper.table_id ≡ B.table)
-        × (cell_view keeper ≡ keeper_of [] []) }
+>(rt: &R, alloc: Global, parts: SharedParts, reading: Reading) -> Option<[bool; 4]>
     requires start { B.start ≡ start_at 2 (codes "http://localhost") 0 0 }
-    requires calls { (calls.name ≡ C.name) × (calls.parts ≡ C.parts) × (C.all ≡ C.parts) × (2 < C.all) }
-    requires triples { (triples.name ≡ T.name) × (triples.parts ≡ T.parts) × (T.all ≡ T.parts) × (2 < T.all) }
+    requires parts { AreNamedBy C.CountedLedger T.CountedLedger B.table 2 parts }
 {
-    let mut shared: Shared<C, T, B> = Shared::new(
-        alloc,
-        2,
-        "http://localhost",
-        0,
-        cell,
-        keeper,
-        calls,
-        triples,
-    )
-    .ok()?;
+    let mut shared: Shared<C, T, B> = Shared::new(alloc, 2, "http://localhost", 0, parts).ok()?;
     let right = write_and_read_at(rt, alloc, &mut shared, reading);
     drop(shared);
     right
@@ -275,9 +251,8 @@ fn write_read<R: Threads + Wait + Sync>(
     alloc: Global,
     reading: Reading,
 ) -> Option<[bool; 4]> {
-    let (cell, keeper) = stamp_cell(alloc).ok()?;
-    let (calls, triples) = (Blank::new(3), Blank::new(3));
-    run::<Brand, Brand, Brand, R>(rt, alloc, cell, keeper, calls, triples, reading)
+    let parts = shared_parts(alloc, 2).ok()?;
+    run::<Brand, Brand, Brand, R>(rt, alloc, parts, reading)
 }
 
 #[test]

@@ -1,17 +1,15 @@
 //! All seats of a store have passes, and none of them acts for another's.
-ghost use Rattle.std.specs.Prelude.{◌≡◌, ◌<◌, [], codes};
-ghost use Rattle.crossbeam_utils.specs.Seq.{cell_view};
+ghost use Rattle.std.specs.Prelude.{◌≡◌, codes};
 ghost use Rattle.gs_core.specs.Settings.{start_at};
-ghost use Rattle.gs_pass.specs.Stamps.{keeper as keeper_of};
+ghost use Rattle.gs_shared.specs.Parts.{AreNamedBy};
 
 use gs_event::{Action, Answer, Event, UploadKind};
 use gs_model::Refusal;
-use gs_shared::{CountedLedger, Pass, Room, Shared, StampCell, Token, stamp_cell};
+use gs_shared::{CountedLedger, Pass, Room, Shared, SharedParts, shared_parts};
 use gs_term::Target;
 use std::alloc::Global;
 use std::marker::Brand;
 use std::sync::Wait;
-use std::sync::ledger::Blank;
 use std::test::Fail;
 
 /// What is seen of the last two of 512 seats.
@@ -86,48 +84,20 @@ fn run<
     T: CountedLedger + Send + Sync,
     B: Room + Send + Sync,
     R: Wait,
->(
-    rt: &R,
-    alloc: Global,
-    cell: StampCell,
-    keeper: Token,
-    calls: Blank,
-    triples: Blank,
-) -> Option<Outcome>
-    requires cell { (cell.table.shared.table_id ≡ B.table)
-        × (keeper.table_id ≡ B.table)
-        × (cell_view keeper ≡ keeper_of [] []) }
+>(rt: &R, alloc: Global, parts: SharedParts) -> Option<Outcome>
     requires start { B.start ≡ start_at 512 (codes "http://localhost") 0 0 }
-    requires calls { (calls.name ≡ C.name)
-        × (calls.parts ≡ C.parts)
-        × (C.all ≡ C.parts)
-        × (512 < C.all) }
-    requires triples { (triples.name ≡ T.name)
-        × (triples.parts ≡ T.parts)
-        × (T.all ≡ T.parts)
-        × (512 < T.all) }
+    requires parts { AreNamedBy C.CountedLedger T.CountedLedger B.table 512 parts }
 {
-    let mut shared: Shared<C, T, B> = Shared::new(
-        alloc,
-        512,
-        "http://localhost",
-        0,
-        cell,
-        keeper,
-        calls,
-        triples,
-    )
-    .ok()?;
+    let mut shared: Shared<C, T, B> = Shared::new(alloc, 512, "http://localhost", 0, parts).ok()?;
     let outcome = act_at(rt, &mut shared);
     drop(shared);
     outcome
 }
 
-/// The same, over a cell and ledgers of its own.
+/// The same, with what a store is made of.
 fn seen<R: Wait>(rt: &R, alloc: Global) -> Option<Outcome> {
-    let (cell, keeper) = stamp_cell(alloc).ok()?;
-    let (calls, triples) = (Blank::new(513), Blank::new(513));
-    run::<Brand, Brand, Brand, R>(rt, alloc, cell, keeper, calls, triples)
+    let parts = shared_parts(alloc, 512).ok()?;
+    run::<Brand, Brand, Brand, R>(rt, alloc, parts)
 }
 
 /// What is not as it must be: the last pass is refused both times, and the seat's own is not.

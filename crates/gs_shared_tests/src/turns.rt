@@ -1,17 +1,15 @@
 //! The call after the 65,536th turns the page, and receipts number the entries of the new one.
-ghost use Rattle.std.specs.Prelude.{◌≡◌, ◌<◌, [], codes};
-ghost use Rattle.crossbeam_utils.specs.Seq.{cell_view};
+ghost use Rattle.std.specs.Prelude.{◌≡◌, codes};
 ghost use Rattle.gs_core.specs.Settings.{start_at};
-ghost use Rattle.gs_pass.specs.Stamps.{keeper as keeper_of};
+ghost use Rattle.gs_shared.specs.Parts.{AreNamedBy};
 
 use crate::heads::ask;
 use gs_shared::{
-    CountedLedger, Ended, Pass, Record, Room, Shared, SharedStore, StampCell, Token, stamp_cell,
+    CountedLedger, Ended, Pass, Record, Room, Shared, SharedParts, SharedStore, shared_parts,
 };
 use std::alloc::Global;
 use std::marker::Brand;
 use std::sync::Wait;
-use std::sync::ledger::Blank;
 use std::test::Fail;
 
 /// Both passes, in a list.
@@ -55,31 +53,11 @@ fn run<
     T: CountedLedger + Send + Sync,
     B: Room + Send + Sync,
     R: Wait,
->(
-    rt: &R,
-    alloc: Global,
-    cell: StampCell,
-    keeper: Token,
-    calls: Blank,
-    triples: Blank,
-) -> Option<Ended>
-    requires cell { (cell.table.shared.table_id ≡ B.table)
-        × (keeper.table_id ≡ B.table)
-        × (cell_view keeper ≡ keeper_of [] []) }
+>(rt: &R, alloc: Global, parts: SharedParts) -> Option<Ended>
     requires start { B.start ≡ start_at 2 (codes "http://localhost") 0 0 }
-    requires calls { (calls.name ≡ C.name) × (calls.parts ≡ C.parts) × (C.all ≡ C.parts) × (2 < C.all) }
-    requires triples { (triples.name ≡ T.name) × (triples.parts ≡ T.parts) × (T.all ≡ T.parts) × (2 < T.all) }
+    requires parts { AreNamedBy C.CountedLedger T.CountedLedger B.table 2 parts }
 {
-    let Ok(mut shared) = Shared::<C, T, B>::new(
-        alloc,
-        2,
-        "http://localhost",
-        0,
-        cell,
-        keeper,
-        calls,
-        triples,
-    ) else {
+    let Ok(mut shared) = Shared::<C, T, B>::new(alloc, 2, "http://localhost", 0, parts) else {
         return None;
     };
     let Ok(passes) = shared.passes(2) else {
@@ -100,9 +78,8 @@ fn run<
 
 /// What they leave.
 fn asked<R: Wait>(rt: &R, alloc: Global) -> Option<Ended> {
-    let (cell, keeper) = stamp_cell(alloc).ok()?;
-    let (calls, triples) = (Blank::new(3), Blank::new(3));
-    run::<Brand, Brand, Brand, R>(rt, alloc, cell, keeper, calls, triples)
+    let parts = shared_parts(alloc, 2).ok()?;
+    run::<Brand, Brand, Brand, R>(rt, alloc, parts)
 }
 
 /// Whether the receipts of a pass number the two entries of a page.

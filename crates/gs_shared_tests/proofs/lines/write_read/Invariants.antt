@@ -3,16 +3,16 @@ use Rattle.gs_core.specs.Settings.{start_at}
 use Rattle.gs_shared_tests.proofs.lines.write_read.Given as goal
 
 abbrev pub ghosts-run-C-Ledger : goal.ghosts-run-C-Ledger
-ghosts-run-C-Ledger g a = record { name = a.calls.name; parts = a.calls.parts }
+ghosts-run-C-Ledger g a = record { name = a.parts.calls.name; parts = a.parts.calls.parts }
 
 abbrev pub ghosts-run-C-CountedLedger : goal.ghosts-run-C-CountedLedger
-ghosts-run-C-CountedLedger g a = record { all = a.calls.parts }
+ghosts-run-C-CountedLedger g a = record { all = a.parts.calls.parts }
 
 abbrev pub ghosts-run-T-Ledger : goal.ghosts-run-T-Ledger
-ghosts-run-T-Ledger g a = record { name = a.triples.name; parts = a.triples.parts }
+ghosts-run-T-Ledger g a = record { name = a.parts.triples.name; parts = a.parts.triples.parts }
 
 abbrev pub ghosts-run-T-CountedLedger : goal.ghosts-run-T-CountedLedger
-ghosts-run-T-CountedLedger g a = record { all = a.triples.parts }
+ghosts-run-T-CountedLedger g a = record { all = a.parts.triples.parts }
 
 abbrev pub ghosts-run-B-Room : goal.ghosts-run-B-Room
-ghosts-run-B-Room g a = record { table = a.cell.table.shared.table_id; start = start_at 2 (codes "http://localhost") 0 0 }
+ghosts-run-B-Room g a = record { table = a.parts.cell.table.shared.table_id; start = start_at 2 (codes "http://localhost") 0 0 }

@@ -12,9 +12,9 @@ invariant_of-locked-clause-began g c =
 
 pub invariant_of-locked-clause-tied : goal.invariant_of-locked-clause-tied
 invariant_of-locked-clause-tied g c =
-    λ _. c.new-register.ensures.none.0 ∙ sym (ap (λ (p : PageView). stamps_in p.rows) c.in_ok-audited.ensures.page)
+    λ _. c.new-stamp_log.ensures.none.0 ∙ sym (ap (λ (p : PageView). stamps_in p.rows) c.in_ok-audited.ensures.page)
 
 pub invariant_of-locked-clause-counted : goal.invariant_of-locked-clause-counted
 invariant_of-locked-clause-counted g c =
-    let none = c.new-register.ensures.none in
+    let none = c.new-stamp_log.ensures.none in
     fresh_counts 65536 4000000 _ _ _ _ _ c.in_ok-audited.ensures.page c.in_ok-audited.ensures.staged none.1 none.2

@@ -6,7 +6,7 @@ use Rattle.gs_pass.specs.Stamps.{stamp_of}
 use Rattle.gs_pass.specs.Claims.{are_of, rises, receipts_of}
 use Rattle.gs_pass.specs.Tallies.{AddsReceipt}
 use Rattle.gs_pass.proofs.ClaimLemmas.{are_of-push, rises-push, receipts_of-enter}
-use Rattle.gs_pass.proofs.registers.Register.enter.Goals as goal
+use Rattle.gs_pass.proofs.stamp_logs.StampLog.enter.Goals as goal
 
 pub invariant_of-pass-clause-own : goal.invariant_of-pass-clause-own
 invariant_of-pass-clause-own g c =

@@ -2,7 +2,7 @@ use Rattle.std.proofs.Common.{[], ◌∷◌, ◌++◌, length, ap, ◌∙◌, sy
 use Rattle.std.proofs.lemmas.List.{length-map, map-append}
 use Rattle.std.proofs.lemmas.List.Sums.{sum_by-append}
 use Rattle.gs_pass.proofs.ClaimLemmas.{backed_push}
-use Rattle.gs_pass.proofs.registers.Register.close_all.Goals as goal
+use Rattle.gs_pass.proofs.stamp_logs.StampLog.close_all.Goals as goal
 
 pub push_reserved-requires : goal.push_reserved-requires
 push_reserved-requires g c =

@@ -1,6 +1,6 @@
 use Rattle.std.proofs.Common.{[], ◌∷◌}
 use Rattle.gs_pass.proofs.ClaimLemmas.{stamp_of-words}
-use Rattle.gs_pass.proofs.registers.words.Goals as goal
+use Rattle.gs_pass.proofs.stamp_logs.words.Goals as goal
 
 pub returns : goal.returns
 returns c =

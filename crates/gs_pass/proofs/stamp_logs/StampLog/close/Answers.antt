@@ -1,5 +1,5 @@
 use Rattle.gs_pass.proofs.ClaimLemmas.{backed}
-use Rattle.gs_pass.proofs.registers.Register.close.Goals as goal
+use Rattle.gs_pass.proofs.stamp_logs.StampLog.close.Goals as goal
 
 pub returns-clause-backed : goal.returns-clause-backed
 returns-clause-backed g c =

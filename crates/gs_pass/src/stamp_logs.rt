@@ -20,7 +20,7 @@ use std::sync::ledger::{Blank, Book, Ledger, Share};
 /// Knows all stamps that passes were given, and how many calls and triples all of them counted. It
 /// lies under the lock.
 #[derive(Drop)]
-pub struct Register<C: Ledger, T: Ledger, B: Room> {
+pub struct StampLog<C: Ledger, T: Ledger, B: Room> {
     keeper: Token,
     calls: Book<C>,
     triples: Book<T>,
@@ -29,16 +29,16 @@ pub struct Register<C: Ledger, T: Ledger, B: Room> {
     ghost knows: { cell_view keeper ≡ keeper_of (cell_view keeper).all [] },
 }
 
-impl<C: Ledger, T: Ledger, B: Room> Register<C, T, B> {
+impl<C: Ledger, T: Ledger, B: Room> StampLog<C, T, B> {
     ghost use Rattle.gs_pass.specs.Passes.{record_of, call_share_of, triple_share_of};
-    ghost use Rattle.gs_pass.specs.Registers.{all_stamps, total_calls, total_triples};
+    ghost use Rattle.gs_pass.specs.StampLogs.{all_stamps, total_calls, total_triples};
 
-    /// A register of no pass, and the shares that passes are given parts of.
+    /// A log of no pass, and the shares that passes are given parts of.
     pub fn new(
         keeper: Token,
         calls: Blank,
         triples: Blank,
-    ) -> (Register<C, T, B>, Share<C>, Share<T>)
+    ) -> (StampLog<C, T, B>, Share<C>, Share<T>)
         requires keeper { (keeper.table_id ≡ B.table) × (cell_view keeper ≡ keeper_of [] []) }
         requires calls { (calls.name ≡ C.name) × (calls.parts ≡ C.parts) }
         requires triples { (triples.name ≡ T.name) × (triples.parts ≡ T.parts) }
@@ -50,13 +50,13 @@ impl<C: Ledger, T: Ledger, B: Room> Register<C, T, B> {
     {
         let (calls, call_share) = calls.open::<C>();
         let (triples, triple_share) = triples.open::<T>();
-        let register = Register {
+        let stamp_log = StampLog {
             keeper,
             calls,
             triples,
             room: PhantomData,
         };
-        (register, call_share, triple_share)
+        (stamp_log, call_share, triple_share)
     }
 
     /// A pass for a seat of the store, of a part of both ledgers.

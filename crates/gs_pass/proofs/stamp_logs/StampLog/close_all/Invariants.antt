@@ -2,7 +2,7 @@ use Rattle.std.proofs.Common.{◌≡◌, ◌+◌, length, map, vec_capacity}
 use Rattle.std.specs.List.{sum_by, All}
 use Rattle.crossbeam_utils.specs.Seq.{cell_view}
 use Rattle.gs_pass.specs.Backing.{IsBacked}
-use Rattle.gs_pass.proofs.registers.Register.close_all.Given as goal
+use Rattle.gs_pass.proofs.stamp_logs.StampLog.close_all.Given as goal
 
 abbrev pub invariant-loop-pass : goal.invariant-loop-pass
 invariant-loop-pass g l = record {
