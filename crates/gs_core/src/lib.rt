@@ -10,7 +10,6 @@ mod stores;
 pub use bases::is_base;
 pub use gs_event::{Action, Answer, Event, Op, Scope, UploadKind};
 pub use gs_model::Refusal;
-pub use gs_plain::PlainStore;
 pub use gs_term::{Part, Pattern, VariableName};
 pub use laws::store_door_takes_steps;
 pub use limits::{MAX_NAMES, MAX_TRIPLES};

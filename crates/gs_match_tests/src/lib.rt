@@ -1,4 +1,5 @@
-//! Tests of gs_match: what is left of a graph without the instances of patterns.
+//! Tests of gs_match and gs_patch: what is left of a graph without the instances of patterns, and what
+//! updates leave of it.
 #![tactic(auto)]
 
 #[cfg(test)]
@@ -17,6 +18,12 @@ mod outcome;
 #[cfg(test)]
 mod rows;
 mod trees;
+#[cfg(test)]
+mod update_rows;
+mod update_trees;
+mod updates;
 
 pub use notation::{patterns, triples};
 pub use trees::left_by;
+pub use update_trees::is_left;
+pub use updates::operations;

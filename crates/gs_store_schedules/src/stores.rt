@@ -2,11 +2,12 @@
 ghost use Rattle.std.specs.Prelude.{◌≤◌};
 ghost use Rattle.gs_model.specs.Limits.{last_number};
 
-use gs_core::{MAX_NAMES, MAX_TRIPLES, PlainStore, Store};
+use gs_core::{MAX_NAMES, MAX_TRIPLES, Store};
 use gs_drawn_events::BASE;
 use gs_drawn_schedules::{Counts, Subject};
 use gs_event::{Answer, Event, Limits};
 use gs_model::{LAST_NUMBER, Refusal};
+use gs_plain::PlainStore;
 use gs_tree_store::{Storage, TreeStore};
 use std::alloc::Global;
 

@@ -8,6 +8,12 @@ mod bodies;
 #[cfg(test)]
 mod characters;
 #[cfg(test)]
+mod cuts;
+#[cfg(test)]
+mod depths;
+#[cfg(test)]
 mod faults;
+#[cfg(test)]
+mod lengths;
 #[cfg(test)]
 mod refusals;

@@ -1,6 +1,6 @@
 //! A short notation of updates.
+use crate::notation::{patterns, triples};
 use gs_event::Op;
-use gs_match_tests::{patterns, triples};
 use gs_model::Refusal;
 use gs_triple_lists::TripleList;
 use std::alloc::Global;

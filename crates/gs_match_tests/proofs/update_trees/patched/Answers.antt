@@ -1,6 +1,6 @@
 use Rattle.gs_staging.proofs.StageLemmas.{none_staged}
-use Rattle.gs_patch_tests.proofs.TreeLemmas.{staged_earlier, none_aside}
-use Rattle.gs_patch_tests.proofs.trees.patched.Goals as goal
+use Rattle.gs_match_tests.proofs.TreeLemmas.{staged_earlier, none_aside}
+use Rattle.gs_match_tests.proofs.update_trees.patched.Goals as goal
 
 pub stage-requires : goal.stage-requires
 stage-requires c = record { staged = none_staged c.args.dict.now.terms c.args.pool.now }

@@ -1,9 +1,9 @@
 //! Graphs, updates, and what is left of each graph, worked by hand from SPARQL 1.1 Update, sections
 //! 3.1.1, 3.1.2 and 3.1.3.3.
-use crate::trees::is_left;
+use crate::notation::triples;
+use crate::update_trees::is_left;
 use crate::updates::operations;
 use gs_event::Op;
-use gs_match_tests::triples;
 use gs_model::Refusal;
 use gs_triple_lists::TripleList;
 use std::alloc::Global;
