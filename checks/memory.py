@@ -470,7 +470,7 @@ def large():
 
 
 def worked_rows(crates):
-    tables = [("gs_schedules/src/rows.rt", "ROWS"), ("gs_schedules/src/datasets.rt", "DATASETS"), ("gs_schedules/src/conditions.rt", "CONDITIONS"), ("gs_schedules/src/patches.rt", "PATCHES"), ("gs_feed_tests/src/feeds.rt", "FEEDS"), ("gs_feed_tests/src/turtle.rt", "FEEDS")]
+    tables = [("gs_schedules/src/rows.rt", "ROWS"), ("gs_schedules/src/datasets.rt", "DATASETS"), ("gs_schedules/src/conditions.rt", "CONDITIONS"), ("gs_schedules/src/patches.rt", "PATCHES"), ("gs_schedule_tests/src/feeds.rt", "FEEDS"), ("gs_schedule_tests/src/turtle.rt", "FEEDS")]
     return [row for file, table in tables for row in worked_schedules(f"{crates}/{file}", table)]
 
 

@@ -1,9 +1,9 @@
 """Compares the pages with the tree: each edit that must fail is a row of docs/WRONG_BODIES.md, and each row an edit, with the promise
 that the edit names (wrong_bodies.py); the index in docs/DEFINITIONS.md is that of the definitions (index.py); the picture in
-docs/ARCHITECTURE.md is that of crates.txt (picture.py); the plots in bench/README.md are those of its tables (bench/plots.py); each
-crate has a page of its own, a line of crates.txt, and a place in docs/PROVED.md; each file and crate that a table of the pages names
-is there; and so is each file and heading that a link of any page leads to. Prints what does not agree, and ends with status 1 if
-anything is wrong."""
+docs/ARCHITECTURE.md is that of crates.txt (picture.py); the calls and clauses that docs/PROVED.md names by crate are there (proved.py);
+the plots in bench/README.md are those of its tables (bench/plots.py); each crate has a page of its own, a line of crates.txt, and a
+place in docs/PROVED.md; each file and crate that a table of the pages names is there; and so is each file and heading that a link of
+any page leads to. Prints what does not agree, and ends with status 1 if anything is wrong."""
 
 import glob
 import os
@@ -15,6 +15,7 @@ sys.path.append(os.path.join(os.path.dirname(os.path.abspath(__file__)), "..", "
 import index
 import picture
 import plots
+import proved
 import wrong_bodies
 
 os.chdir(os.path.join(os.path.dirname(os.path.abspath(__file__)), ".."))
@@ -37,7 +38,7 @@ def anchors(page):
 
 
 crates = re.findall(r"(?m)^(\w+)[^:#\n]*:", text("crates.txt"))
-wrong += wrong_bodies.differences() + index.differences() + picture.differences() + plots.differences()
+wrong += wrong_bodies.differences() + index.differences() + picture.differences() + proved.differences() + plots.differences()
 
 for crate in crates:
     if not os.path.isfile(f"crates/{crate}/README.md"):

@@ -1,4 +1,4 @@
-"""A plain reader of Turtle on a whole text, for the schedules of gs_feed_tests."""
+"""A plain reader of Turtle on a whole text, for the schedules of gs_schedule_tests."""
 import re
 from urllib.parse import urljoin
 
