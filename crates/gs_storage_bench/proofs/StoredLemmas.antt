@@ -12,7 +12,6 @@ use Rattle.gs_tree.specs.Keys.{AllKeys}
 use Rattle.gs_tree.specs.Reading.{IsReadableAt, keys_at}
 use Rattle.gs_tree.specs.Sets.{UnitesAt}
 use Rattle.gs_tree.proofs.ReadingLemmas.{empty_set, set_readable}
-use Rattle.gs_tree.proofs.Order.{AllKeys-map}
 use Rattle.gs_keys.specs.Texts.{Terms, key_cmp, IsGiven}
 use Rattle.gs_keys.proofs.RootLemmas.{graph_kept, set_graph, all_merge}
 use Rattle.gs_storage_bench.specs.Stored.{IsStoredSet, GrowsByTerms}
