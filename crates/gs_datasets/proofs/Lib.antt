@@ -6,3 +6,4 @@ pub mod Sizes
 pub mod Lists
 pub mod Writing
 pub mod Keeping
+pub mod Sweeping

@@ -44,10 +44,21 @@ agree_set gs es n e agree inside same_place same_hash = record {
   ];
 }
 
--- texts stand where they stood, as long as the places are the same
-pub text_agree : (blocks : List (List ℕ)) (es fs : List Entry) (i : ℕ) → Agree es fs → text_at blocks fs i ≡ text_at blocks es i
+-- a text stands where it stood, as long as its place is the same
+pub text_same_place :
+    (blocks : List (List ℕ)) (es fs : List Entry) (i : ℕ) → (dict_entry_at fs i).place ≡ (dict_entry_at es i).place → text_at blocks fs i ≡ text_at blocks es i
 unfolding text_at
-text_agree blocks es fs i agree = ap (text_in blocks) (agree.place_same i)
+text_same_place blocks es fs i same = ap (text_in blocks) same
+
+-- so where all places are the same
+pub text_agree : (blocks : List (List ℕ)) (es fs : List Entry) (i : ℕ) → Agree es fs → text_at blocks fs i ≡ text_at blocks es i
+text_agree blocks es fs i agree = text_same_place blocks es fs i (agree.place_same i)
+
+-- a number whose place has a text has that text
+pub text_placed :
+    (blocks : List (List ℕ)) (es : List Entry) (i : ℕ) (p : Place) (x : List ℕ) → (dict_entry_at es i).place ≡ p → HoldsText blocks p x → text_at blocks es i ≡ x
+unfolding text_at
+text_placed blocks es i p x same stands = ap (text_in blocks) same ∙ stands.text
 
 pub placed_agree : (blocks : List (List ℕ)) (es fs : List Entry) → AreInBlocks blocks es → Agree es fs → AreInBlocks blocks fs
 placed_agree blocks es fs placed agree = record {

@@ -1,6 +1,12 @@
 pub mod ChainLemmas
 pub mod EntryLemmas
 pub mod TableLemmas
+pub mod MoveLemmas
+pub mod GiveLemmas
+pub mod CompactionLemmas
 pub mod NumberLemmas
+pub mod EmptyLemmas
 pub mod TermLemmas
+pub mod DictLemmas
+pub mod SweepLemmas
 pub mod BuilderLemmas

@@ -1,5 +1,5 @@
 -- The entries of a dictionary: where each text stands, and the chains of the buckets.
-use Rattle.std.specs.Prelude.{◌≡◌, ℕ, ◌+◌, ◌-◌, ◌<◌, ◌≤◌, ◌^◌, List, length, slice_index, slice_index_or, bit_and, Option, Some, None, Result, Ok, Err}
+use Rattle.std.specs.Prelude.{◌≡◌, ◌≢◌, ℕ, ◌+◌, ◌-◌, ◌<◌, ◌≤◌, ◌^◌, List, length, slice_index, slice_index_or, bit_and, Option, Some, None, Result, Ok, Err}
 use Rattle.std.specs.declared.alloc.AllocError.{AllocError}
 use Rattle.gs_dict.specs.declared.chains.Entry.{Entry}
 use Rattle.gs_texts.specs.declared.places.Place.{Place}
@@ -96,3 +96,52 @@ pub record KeepsTexts (blocks : List (List ℕ)) (es : List Entry) (later : List
 abbrev pub AddsText : ℕ → List (List ℕ) → List Entry → ℕ → List ℕ → Result ℕ AllocError → Type 0
 AddsText n later fs hash x (Ok i) = (i ≡ n) × (length fs ≡ n + 1) × EntryHas later fs n hash x
 AddsText n later fs hash x (Err e) = length fs ≡ n
+
+-- The numbers other than v are in chains, and maybe v is. The clauses are those of `IsChained`, but nothing is said of v's
+-- own link, and v need not be found.
+pub record IsChainedPast (n v : ℕ) (bucket next head : ℕ → ℕ) : Type 0 where
+  pub head_given : (b : ℕ) → head b ≤ n
+  pub head_there : (b : ℕ) → 0 < head b → bucket (head b - 1) ≡ b
+  pub head_greatest : (j : ℕ) → j < n → j ≢ v → j < head (bucket j)
+  pub next_below : (i : ℕ) → i < n → i ≢ v → next i ≤ i
+  pub next_there : (i : ℕ) → i < n → i ≢ v → 0 < next i → bucket (next i - 1) ≡ bucket i
+  pub next_greatest : (i j : ℕ) → i < n → i ≢ v → j < i → j ≢ v → bucket j ≡ bucket i → j < next i
+
+-- the numbers other than v are in chains, and v is in none
+pub record IsChainedBut (n v : ℕ) (bucket next head : ℕ → ℕ) : Type 0 where
+  pub others : IsChainedPast n v bucket next head
+  pub head_other : (b : ℕ) → head b ≢ v + 1
+  pub next_other : (i : ℕ) → i < n → i ≢ v → next i ≢ v + 1
+
+-- the first n entries are in such chains
+abbrev pub IsLinkedPast : ℕ → ℕ → List Entry → List ℕ → Type 0
+IsLinkedPast n v es heads = IsChainedPast n v (bucket_at (length heads) es) (link_after es) (slice_index heads)
+
+abbrev pub IsLinkedBut : ℕ → ℕ → List Entry → List ℕ → Type 0
+IsLinkedBut n v es heads = IsChainedBut n v (bucket_at (length heads) es) (link_after es) (slice_index heads)
+
+-- the number, if there is one, is of the bucket and greater than v
+abbrev pub IsAbove : ℕ → ℕ → (ℕ → ℕ) → ℕ → Option ℕ → Type 0
+IsAbove n v bucket b None = Unit {0}
+IsAbove n v bucket b (Some a) = (a < n) × (v < a) × (bucket a ≡ b)
+
+-- the link after the number, or the bucket's, where there is none
+abbrev pub link_from : (ℕ → ℕ) → (ℕ → ℕ) → ℕ → Option ℕ → ℕ
+link_from next head b None = head b
+link_from next head b (Some a) = next a
+
+-- it is the least such number: the link after it leads to v or below
+pub record IsLeastAbove (n v : ℕ) (bucket next head : ℕ → ℕ) (b : ℕ) (above : Option ℕ) : Type 0 where
+  pub is_above : IsAbove n v bucket b above
+  pub falls : link_from next head b above ≤ v + 1
+
+-- The link after the number is written, or the bucket's, where there is none. The links were `next` and `head`; they
+-- are `next'` and `head'`.
+abbrev pub IsLinkSet : ℕ → Option ℕ → ℕ → (ℕ → ℕ) → (ℕ → ℕ) → (ℕ → ℕ) → (ℕ → ℕ) → Type 0
+IsLinkSet b None link next head next' head' = (head' b ≡ link) × ((k : ℕ) → k ≢ b → head' k ≡ head k) × ((k : ℕ) → next' k ≡ next k)
+IsLinkSet b (Some a) link next head next' head' = (next' a ≡ link) × ((k : ℕ) → k ≢ a → next' k ≡ next k) × ((k : ℕ) → head' k ≡ head k)
+
+-- each number but this one keeps its text and its hash
+pub record KeepsOtherTexts (n : ℕ) (blocks : List (List ℕ)) (es : List Entry) (later : List (List ℕ)) (fs : List Entry) : Type 0 where
+  pub text_same : (i : ℕ) → i < length es → i ≢ n → text_at later fs i ≡ text_at blocks es i
+  pub hash_same : (i : ℕ) → i < length es → i ≢ n → (dict_entry_at fs i).hash ≡ (dict_entry_at es i).hash

@@ -1,5 +1,5 @@
 -- What a dictionary does: each number has a term, or none.
-use Rattle.std.specs.Prelude.{◌≡◌, ◌≢◌, ◌⊎◌, ℕ, ◌≤◌, List, [], ◌∷◌, ◌++◌, length, slice_index_or, Option, Some, None, IsSome, Result, Ok, Err, refl}
+use Rattle.std.specs.Prelude.{◌≡◌, ◌≢◌, ◌⊎◌, ℕ, ◌<◌, ◌≤◌, List, [], length, slice_index_or, Option, Some, None, IsSome, Result, Ok, Err, refl}
 use Rattle.std.specs.Coded.{Coded, code_by, coded×, coded_ℕ, coded_list, coded_option}
 use Rattle.gs_model.specs.Codes.{term_code}
 use Rattle.std.specs.Option.{unwrap_or}
@@ -24,10 +24,6 @@ numbered_code = code_by (Terms × ℕ) (coded× (coded_list (coded_option term_c
 -- no term has a number yet
 abbrev pub none_numbered : ℕ → Numbered
 none_numbered last = record { terms = []; last = last }
-
--- one term more, under the next number
-abbrev pub with_next_term : Numbered → Term → Numbered
-with_next_term d t = record { terms = d.terms ++ Some t ∷ []; last = d.last }
 
 -- the term of a number, if it has one
 abbrev pub term_given : Terms → ℕ → Option Term
@@ -67,15 +63,18 @@ pub record Recalls (d : Numbered) (t : Term) (n : ℕ) (e : Numbered) : Type 0 w
   pub there : IsNumberOf d.terms n t
   pub same : e ≡ d
 
--- the term had no number, and is given the next one, which is not past the last
-pub record GivesNextNumber (d : Numbered) (t : Term) (n : ℕ) (e : Numbered) : Type 0 where
+-- the term had no number, and is given one that had no term and is not past the last; every other number is as it was
+pub record GivesNumber (d : Numbered) (t : Term) (n : ℕ) (e : Numbered) : Type 0 where
   pub absent : IsNew d.terms t
-  pub next : n ≡ length d.terms
+  pub free : term_given d.terms n ≡ None
   pub within : n ≤ d.last
-  pub more : e ≡ with_next_term d t
+  pub given : IsNumberOf e.terms n t
+  pub others : (m : ℕ) → m ≢ n → term_given e.terms m ≡ term_given d.terms m
+  pub used : (m : ℕ) → m < length e.terms → (m < length d.terms) ⊎ (m ≡ n)
+  pub last : e.last ≡ d.last
 
 -- What giving a term its number answers and leaves. Want of memory comes to new terms alone, and changes nothing.
 abbrev pub Interns : Numbered → Term → Result TermId Refusal → Numbered → Type 0
-Interns d t (Ok id) e = Recalls d t id.number e ⊎ GivesNextNumber d t id.number e
+Interns d t (Ok id) e = Recalls d t id.number e ⊎ GivesNumber d t id.number e
 Interns d t (Err NoMemory) e = IsNew d.terms t × (e ≡ d)
 Interns d t (Err refusal) e = ⊥

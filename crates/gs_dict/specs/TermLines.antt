@@ -1,5 +1,5 @@
 -- Lines of terms that are built up by numbers.
-use Rattle.std.specs.Prelude.{ℕ, ◌<◌, List, [], ◌++◌, length, refl}
+use Rattle.std.specs.Prelude.{◌≢◌, ℕ, ◌<◌, List, [], ◌++◌, length, refl}
 use Rattle.std.specs.Coded.{Coded, code_by, coded×, coded_ℕ, coded_list, coded_option}
 use Rattle.gs_model.specs.Codes.{term_code}
 use Rattle.gs_model.specs.Terms.{Term, text_of}
@@ -40,7 +40,7 @@ with_terms b subject predicate object =
 abbrev pub lines_by_numbers : Built → List Entry → TermLines
 lines_by_numbers b es = record { terms = terms_of b.blocks es; tail = b.tail; items = b.items }
 
--- each entry has a text of a term in the blocks
+-- each entry has no text in the blocks, or one of a term
 pub record HaveTexts (blocks : List (List ℕ)) (es : List Entry) : Type 0 where
   pub placed : AreInBlocks blocks es
-  pub canonical : (i : ℕ) → i < length es → IsCanonical (text_at blocks es i)
+  pub canonical : (i : ℕ) → i < length es → text_at blocks es i ≢ [] → IsCanonical (text_at blocks es i)

@@ -1,7 +1,8 @@
 //! An entry for each text, and chains of entries by their hashes.
-ghost use Rattle.std.specs.Prelude.{◌≡◌, ◌+◌, ◌-◌, ◌<◌, ◌≤◌, ◌^◌, length, slice_index, ℕ, IfOk, OnOk, OnErr};
+ghost use Rattle.std.specs.Prelude.{◌≡◌, ◌+◌, ◌-◌, ◌<◌, ◌≤◌, ◌^◌, length, slice_index, slice_set, ℕ, IfOk, IfSome, OnOk, OnErr};
 ghost use Rattle.std.specs.Bool.{Decides};
-ghost use Rattle.gs_dict.specs.Chains.{IsLinked, AreInBlocks, IsTable, AreEnough, EntryHas, Meets, Agree, KeepsTexts, AddsText, text_at as text_of_number, bucket_of};
+ghost use Rattle.gs_dict.specs.Chains.{IsLinked, IsLinkedPast, IsLinkedBut, IsLeastAbove, IsLinkSet, AreInBlocks, IsTable, AreEnough, EntryHas, Meets, Agree, KeepsTexts, KeepsOtherTexts, AddsText, text_at as text_of_number, dict_entry_at, bucket_of, bucket_at, link_after, link_from as link_from_number};
+ghost use Rattle.gs_texts.specs.Places.{length_of};
 
 use crate::numbers::NO_TERM;
 use gs_texts::{Place, Texts};
@@ -204,4 +205,145 @@ pub fn add(
     })?;
     heads[b] = number + 1;
     Ok(number)
+}
+
+/// How many entries are looked at for one without a text.
+pub const LOOKED_AT: usize = 64;
+
+/// A number whose text is empty, looked for among so many from `from` on.
+pub fn empty_number(entries: &[Entry], from: usize) -> Option<u32>
+    ensures { IfSome result (λ i. (i < length entries.now)
+        × (length_of (dict_entry_at entries.now i).place ≡ 0)) }
+{
+    let end = entries.len().min(from.saturating_add(LOOKED_AT));
+    for i in from..end {
+        if entries[i].place.length() == 0 {
+            return u32::try_from(i).ok();
+        }
+    }
+    None
+}
+
+/// The least number of the bucket's chain that is greater than this one, if there is one.
+fn above(entries: &[Entry], heads: &[u32], bucket: usize, number: usize) -> Option<usize>
+    requires inside { bucket < length heads.now }
+    requires linked { IsLinkedPast (length entries.now) number entries.now heads.now }
+    ensures { IsLeastAbove (length entries.now) number (bucket_at (length heads.now) entries.now)
+        (link_after entries.now) (slice_index heads.now) bucket result }
+{
+    let mut above = None;
+    let mut link = heads[bucket] as usize;
+    while link > 0 && link - 1 > number {
+        above = Some(link - 1);
+        link = entries[link - 1].next as usize;
+    }
+    above
+}
+
+/// The link after the number above, or the bucket's, where there is none.
+fn link_from(entries: &[Entry], heads: &[u32], bucket: usize, above: Option<usize>) -> u32
+    requires inside { bucket < length heads.now }
+    requires given { IfSome above (λ a. a < length entries.now) }
+    ensures { result ≡ link_from_number (link_after entries.now) (slice_index heads.now) bucket above }
+{
+    match above {
+        None => heads[bucket],
+        Some(number) => entries[number].next,
+    }
+}
+
+/// Writes the link after the number above, or the bucket's, where there is none.
+fn set_link(
+    entries: &mut [Entry],
+    heads: &mut [u32],
+    bucket: usize,
+    above: Option<usize>,
+    link: u32,
+)
+    requires inside { bucket < length heads.old }
+    requires given { IfSome above (λ a. a < length entries.old) }
+    ensures set { IsLinkSet bucket above link (link_after entries.old) (slice_index heads.old)
+        (link_after entries.new) (slice_index heads.new) }
+    ensures kept { Agree entries.old entries.new }
+{
+    match above {
+        None => heads[bucket] = link,
+        Some(number) => entries[number].next = link,
+    }
+}
+
+/// Takes a number out of the chain of its hash.
+#[tactic(auto, using(crate::proofs::GiveLemmas::linked_out))]
+fn take_out(entries: &mut [Entry], heads: &mut [u32], number: usize)
+    requires some { 0 < length heads.old }
+    requires given { number < length entries.old }
+    requires linked { IsLinked (length entries.old) entries.old heads.old }
+    ensures linked { IsLinkedBut (length entries.new) number entries.new heads.new }
+    ensures kept { Agree entries.old entries.new }
+{
+    let bucket = bucket(entries[number].hash, heads.len());
+    let above = above(entries, heads, bucket, number);
+    let next = entries[number].next;
+    set_link(entries, heads, bucket, above, next);
+}
+
+/// Puts a number into the chain of its hash, in which it was not.
+#[tactic(auto, using(crate::proofs::GiveLemmas::linked_in))]
+fn put_in(entries: &mut [Entry], heads: &mut [u32], number: usize)
+    requires some { 0 < length heads.old }
+    requires given { number < length entries.old }
+    requires few { length entries.old < 2 ^ 32 }
+    requires linked { IsLinkedBut (length entries.old) number entries.old heads.old }
+    ensures linked { IsLinked (length entries.new) entries.new heads.new }
+    ensures kept { Agree entries.old entries.new }
+{
+    let bucket = bucket(entries[number].hash, heads.len());
+    let above = above(entries, heads, bucket, number);
+    entries[number].next = link_from(entries, heads, bucket, above);
+    set_link(entries, heads, bucket, above, number as u32 + 1);
+}
+
+/// Gives a number this place and this hash, and moves it to the chain of this hash.
+#[tactic(auto, using(crate::proofs::GiveLemmas::but_set, crate::proofs::GiveLemmas::moved))]
+fn move_to(entries: &mut [Entry], heads: &mut [u32], number: usize, place: Place, hash: u32)
+    requires some { 0 < length heads.old }
+    requires given { number < length entries.old }
+    requires few { length entries.old < 2 ^ 32 }
+    requires linked { IsLinked (length entries.old) entries.old heads.old }
+    ensures linked { IsLinked (length entries.new) entries.new heads.new }
+    ensures moved { Agree (slice_set entries.old number (record { place = place; next = 0; hash = hash }))
+        entries.new }
+{
+    take_out(entries, heads, number);
+    entries[number] = Entry {
+        place,
+        next: entries[number].next,
+        hash,
+    };
+    put_in(entries, heads, number);
+}
+
+/// Gives another text to a number that has one. Where memory is wanted, nothing changes.
+pub fn give(
+    texts: &mut Texts,
+    entries: &mut Vec<Entry>,
+    heads: &mut Vec<u32>,
+    number: u32,
+    text: &[u8],
+    hash: u32,
+) -> Result<(), AllocError>
+    requires table { IsTable texts.old entries.old.items heads.old.items }
+    requires given { number < length entries.old.items }
+    requires few { length entries.old.items < 2 ^ 32 }
+    requires short { length text.now < 2 ^ 16 }
+    ensures table { IsTable texts.new entries.new.items heads.new.items }
+    ensures others { KeepsOtherTexts number texts.old entries.old.items texts.new entries.new.items }
+    ensures ok { OnOk result (EntryHas texts.new entries.new.items number hash text.now) }
+    ensures count { length entries.new.items ≡ length entries.old.items }
+    ensures err { OnErr result ((texts.new ≡ texts.old) × (entries.new.items ≡ entries.old.items)
+        × (heads.new.items ≡ heads.old.items)) }
+{
+    let place = texts.push(text)?;
+    move_to(entries, heads, number as usize, place, hash);
+    Ok(())
 }

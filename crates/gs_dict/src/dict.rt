@@ -1,19 +1,22 @@
 //! The dictionary.
-ghost use Rattle.std.specs.Prelude.{◌≡◌, ◌+◌, ◌<◌, ◌≤◌, length, min, nat_lt, is_some, Some, MatchResult, ℕ, IfOk};
+ghost use Rattle.std.specs.Prelude.{◌≡◌, ◌+◌, ◌<◌, ◌≤◌, ◌^◌, length, min, nat_lt, is_some, Some, MatchResult, ℕ, IfOk, IfSome, IfNone};
 ghost use Rattle.std.specs.Bool.{Decides};
 ghost use Rattle.std.specs.Option.{option_map};
 ghost use Rattle.gs_model.specs.Terms.{Term, text_of, IsTerm};
 ghost use Rattle.gs_model.specs.Limits.{last_term};
 ghost use Rattle.gs_dict.specs.Numbering.{IsNumberOf, HasTerm, IsDistinct, LooksUp, Interns, none_numbered, term_given};
-ghost use Rattle.gs_dict.specs.Kept.{hash_of as hash_of_text};
+ghost use Rattle.gs_dict.specs.Chains.{IsTable};
+ghost use Rattle.gs_dict.specs.Kept.{hash_of as hash_of_text, has_bytes, IsEmptyNumber, PutsText, ClearsPlaces};
+ghost use Rattle.gs_dict.specs.Sweeping.{Sweeps};
 ghost use Rattle.gs_dict.specs.TermLines.{lines_of_terms};
 
 use crate::builders::TermLinesBuilder;
-use crate::chains::{self, Entry, GUESSED_TOGETHER};
+use crate::chains::{self, Entry, GUESSED_TOGETHER, LOOKED_AT};
+use crate::compaction;
 use crate::numbers::TermId;
 use gs_model::{LAST_TERM, Refusal};
 use gs_term::TermText;
-use gs_texts::Texts;
+use gs_texts::{Place, Texts};
 use std::alloc::{AllocError, Global};
 use std::hash::{FoldHasher, Hasher};
 use std::marker::Model;
@@ -33,6 +36,8 @@ pub struct Dict {
     seeded: FoldHasher,
     /// No number is greater.
     last: u32,
+    /// From where a number without a term is looked for. Each number before it has one.
+    next_empty: usize,
 }
 
 impl Model for Dict {
@@ -58,6 +63,68 @@ fn hash_of(seeded: FoldHasher, text: &[u8]) -> u32
     (hasher.finish() & 0xFFFF_FFFF) as u32
 }
 
+/// Whether this number is given and has a text.
+fn has_text(entries: &[Entry], number: usize) -> bool
+    ensures { result ≡ has_bytes entries.now number }
+{
+    entries
+        .get(number)
+        .is_some_and(|entry| entry.place.length() != 0)
+}
+
+/// A number without a text, if there is one among the `LOOKED_AT` from one on. The next is looked for
+/// from it on, or after those that were looked at, so that each is looked at once or twice between two
+/// sweeps.
+fn next_empty(entries: &[Entry], from: &mut usize) -> Option<u32>
+    ensures { IfSome result (IsEmptyNumber entries.now) }
+{
+    let found = chains::empty_number(entries, *from);
+    *from = match found {
+        Some(number) => number as usize,
+        None => entries.len().min(from.saturating_add(LOOKED_AT)),
+    };
+    found
+}
+
+/// Gives a text the number that has none, or else the next one.
+fn put(
+    texts: &mut Texts,
+    entries: &mut Vec<Entry>,
+    heads: &mut Vec<u32>,
+    empty: Option<u32>,
+    text: &[u8],
+    hash: u32,
+) -> Result<u32, AllocError>
+    requires table { IsTable texts.old entries.old.items heads.old.items }
+    requires empty { IfSome empty (IsEmptyNumber entries.old.items) }
+    requires few { length entries.old.items < 2 ^ 32 }
+    requires room { IfNone empty (length entries.old.items + 1 < 2 ^ 32) }
+    requires short { length text.now < 2 ^ 16 }
+    ensures table { IsTable texts.new entries.new.items heads.new.items }
+    ensures value { PutsText texts.old entries.old.items hash text.now result texts.new entries.new.items }
+    ensures count { IfSome empty (λ n. length entries.new.items ≡ length entries.old.items) }
+{
+    match empty {
+        Some(number) => {
+            chains::give(texts, entries, heads, number, text, hash)?;
+            Ok(number)
+        }
+        None => chains::add(texts, entries, heads, text, hash),
+    }
+}
+
+/// Takes the texts of the entries of `count` numbers from `from` on, but of those that are marked.
+fn clear_places(entries: &mut [Entry], marks: &[bool], from: usize, count: usize)
+    ensures { ClearsPlaces marks.now from (from + count) entries.old entries.new }
+{
+    let end = entries.len().min(from.saturating_add(count));
+    for number in from..end {
+        if !marks.get(number).copied().unwrap_or(false) {
+            entries[number].place = Place::new(0, 0, 0);
+        }
+    }
+}
+
 impl Dict {
     /// One without terms. Where strangers choose the terms, the seed is a random number that is kept
     /// from them. No number is greater than `last`, nor than 4,294,967,294.
@@ -75,7 +142,14 @@ impl Dict {
             heads,
             seeded,
             last: last.min(LAST_TERM),
+            next_empty: 0,
         })
+    }
+
+    /// How many bytes the texts take, with those that were swept and whose room did not come back. No clause
+    /// speaks of it: by it a store sees when a sweep is worth its time.
+    pub fn text_bytes(&self) -> usize {
+        self.texts.size()
     }
 
     /// How many numbers there are.
@@ -88,8 +162,8 @@ impl Dict {
         self.entries.len()
     }
 
-    /// Whether all numbers are given, so that a new term gets none.
-    pub fn is_full(&self) -> bool
+    /// Whether all numbers are given, so that a new term gets one that has no term, or none.
+    fn is_full(&self) -> bool
         ensures { result ≡ nat_lt self.now.last (length self.now.terms) }
     {
         self.len() > self.last as usize
@@ -99,7 +173,7 @@ impl Dict {
     pub fn has(&self, id: TermId) -> bool
         ensures { result ≡ is_some (term_given self.now.terms id.number) }
     {
-        (id.number as usize) < self.entries.len()
+        has_text(&self.entries, id.number as usize)
     }
 
     /// The canonical text of a number that has a term.
@@ -155,8 +229,9 @@ impl Dict {
         )
     }
 
-    /// The number of a term, which is given one where it has none. Wants memory for a new term
-    /// alone; that the numbers are used up counts as want of memory.
+    /// The number of a term, which is given one where it has none: one without a term, if there is one
+    /// among the few that are looked at, and else the next. Wants memory for a new term alone; that the
+    /// numbers are used up, and none is found, counts as want of memory.
     pub fn intern(&mut self, term: &TermText) -> Result<TermId, Refusal>
         ensures value { Interns self.old term.now result self.new }
         ensures distinct { IsDistinct self.new.terms }
@@ -168,13 +243,16 @@ impl Dict {
         if let Some(number) = chains::find(&self.texts, &self.entries, &self.heads, text, hash) {
             return Ok(TermId { number });
         }
-        if self.is_full() {
+        let full = self.is_full();
+        let empty = next_empty(&self.entries, &mut self.next_empty);
+        if full && empty.is_none() {
             return Err(Refusal::NoMemory);
         }
-        let number = chains::add(
+        let number = put(
             &mut self.texts,
             &mut self.entries,
             &mut self.heads,
+            empty,
             text,
             hash,
         )?;
@@ -190,5 +268,22 @@ impl Dict {
             return Ok(guess);
         }
         self.intern(term)
+    }
+
+    /// Takes the terms of `count` numbers from `from` on, but of those that are marked. Such a number
+    /// may be given to another term. Takes no memory; the room of texts comes back by `compact`.
+    pub fn sweep(&mut self, marks: &[bool], from: usize, count: usize)
+        ensures { Sweeps marks.now from count self.old self.new }
+    {
+        clear_places(&mut self.entries, marks, from, count);
+        self.next_empty = self.next_empty.min(from);
+    }
+
+    /// Gives back the room of texts that were swept, where a block has few others. Where memory is
+    /// wanted, some stays.
+    pub fn compact(&mut self)
+        ensures { self.new ≡ self.old }
+    {
+        let _ = compaction::compact(&mut self.texts, &mut self.entries);
     }
 }

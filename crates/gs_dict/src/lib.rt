@@ -3,6 +3,7 @@
 
 mod builders;
 mod chains;
+mod compaction;
 mod dict;
 mod numbers;
 

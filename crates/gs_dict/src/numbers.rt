@@ -1,6 +1,7 @@
 //! The number of a term.
 
-/// The number of a term in one dictionary. Numbers begin at 0 and are never given twice.
+/// The number of a term in one dictionary. Numbers begin at 0. No two terms have one number at once; one
+/// whose term was swept may be given to another term.
 #[derive(Clone, Copy, Debug, PartialEq, Eq, PartialOrd, Ord, Hash, Drop)]
 pub struct TermId {
     pub number: u32,

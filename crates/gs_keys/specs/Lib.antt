@@ -1,3 +1,4 @@
--- Read `Texts` for what a key says and how keys are ordered, and `Roots` for the graph of a root.
+-- Read `Texts` for what a key says and how keys are ordered, `Roots` for the graph of a root, and `Marks` for what is marked.
 pub mod Texts
 pub mod Roots
+pub mod Marks

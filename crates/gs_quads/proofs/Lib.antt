@@ -10,3 +10,4 @@ pub mod Lasting
 pub mod Joined
 pub mod Counted
 pub mod Calls
+pub mod Sweeping

@@ -20,4 +20,6 @@ mod pins;
 #[cfg(test)]
 mod refusals;
 #[cfg(test)]
+mod sweeps;
+#[cfg(test)]
 mod terms;

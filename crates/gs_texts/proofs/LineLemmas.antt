@@ -31,7 +31,7 @@ lines_same P blocks tails later longer (l ∷ ls) same all =
     λ i. first i ++ rest i
 
 -- a text has as many bytes as its place says
-text_length : (blocks : List (List ℕ)) (p : Place) → LiesInBlock blocks p → length (text_in blocks p) ≡ length_of p
+pub text_length : (blocks : List (List ℕ)) (p : Place) → LiesInBlock blocks p → length (text_in blocks p) ≡ length_of p
 unfolding text_in
 text_length blocks p lies =
     let block : List ℕ = block_at blocks (block_of p) in

@@ -1,6 +1,8 @@
 //! Blocks that are full.
-ghost use Rattle.std.specs.Prelude.{◌≡◌, ◌++◌, ◌∷◌, [], length, slice_get, is_ok, if◌then◌else◌, IfOk};
+ghost use Rattle.std.specs.Prelude.{◌≡◌, ◌++◌, ◌∷◌, [], length, map, slice_get, is_ok, if◌then◌else◌, IfOk, OnOk};
+ghost use Rattle.std.specs.Arc.{arc_value};
 ghost use Rattle.std.specs.Option.{option_map};
+ghost use Rattle.gs_texts.specs.Releasing.{is_gone, EmptiesMarked, AreEmptied};
 
 use crate::blocks::Block;
 use std::alloc::{AllocError, Global};
@@ -22,6 +24,31 @@ impl Model for SealedBlocks {
     ghost Value = { List (List ℕ) };
 
     ghost view = { λ s. map arc_value (arc_value s.blocks).items };
+}
+
+/// Whether a number is marked.
+fn is_marked(gone: &[bool], number: usize) -> bool
+    ensures { result ≡ is_gone gone.now number }
+{
+    gone.get(number).copied().unwrap_or(false)
+}
+
+/// Puts a block without bytes into the place of each that is marked.
+fn empty_marked(
+    blocks: &mut [Arc<Block>],
+    gone: &[bool],
+    empty: &Arc<Block>,
+) -> Result<(), AllocError>
+    requires { arc_value empty.now ≡ [] }
+    ensures kept { EmptiesMarked gone.now (map arc_value blocks.old) (map arc_value blocks.new) }
+    ensures ok { OnOk result (AreEmptied gone.now (map arc_value blocks.new) (length blocks.old)) }
+{
+    for i in 0..blocks.len() {
+        if is_marked(gone, i) {
+            blocks[i] = empty.clone()?;
+        }
+    }
+    Ok(())
 }
 
 impl SealedBlocks {
@@ -80,5 +107,33 @@ impl SealedBlocks {
                 Err(AllocError)
             }
         }
+    }
+
+    /// How many bytes they have. Linear in the blocks.
+    pub fn size(&self) -> usize {
+        let mut size = 0usize;
+        for block in self.blocks.iter() {
+            size = size.saturating_add(block.len());
+        }
+        size
+    }
+
+    /// How many of them have bytes.
+    pub fn filled(&self) -> usize {
+        self.blocks.iter().filter(|block| block.len() > 0).count()
+    }
+
+    /// Gives back the blocks whose numbers are marked. Linear in the blocks. Where memory is wanted, some
+    /// of them stay.
+    pub fn release(&mut self, gone: &[bool]) -> Result<(), AllocError>
+        ensures kept { EmptiesMarked gone.now self.old self.new }
+        ensures ok { OnOk result (AreEmptied gone.now self.new (length self.old)) }
+    {
+        let alloc = *self.blocks.allocator();
+        let Ok(empty) = Arc::new(alloc, Block::new(alloc)) else {
+            return Err(AllocError);
+        };
+        let list = Arc::make_mut(&mut self.blocks)?;
+        empty_marked(list.as_mut_slice(), gone, &empty)
     }
 }

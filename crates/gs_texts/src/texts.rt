@@ -1,7 +1,8 @@
 //! Texts in blocks.
-ghost use Rattle.std.specs.Prelude.{◌≡◌, ◌+◌, ◌-◌, ◌<◌, ◌^◌, ◌++◌, ◌∷◌, [], length, nat_lt, is_ok, if◌then◌else◌, IsTrue, IfOk, OnErr};
+ghost use Rattle.std.specs.Prelude.{◌≡◌, ◌+◌, ◌-◌, ◌<◌, ◌^◌, ◌++◌, ◌∷◌, [], length, nat_lt, is_ok, if◌then◌else◌, IsTrue, IfOk, OnOk, OnErr};
 ghost use Rattle.std.specs.Bool.{Decides};
 ghost use Rattle.gs_texts.specs.Places.{IsPlaceOf, LiesInBlock, KeepsBytes, HoldsText, block_of, block_at, last_block, sealed_of, text_in};
+ghost use Rattle.gs_texts.specs.Releasing.{KeepsOthers, HasNone};
 
 use crate::blocks::Block;
 use crate::places::Place;
@@ -19,16 +20,19 @@ const FIRST_ROOM: usize = 1 << 10;
 /// How many blocks there may be: as many as a place can number.
 const MOST_BLOCKS: usize = 1 << 30;
 
-/// For each block that there is, so many bytes are to be left when another one is begun.
+/// For each block that has bytes, so many are to be left when another one is begun.
 const RESERVE: usize = ROOM / 4;
 
 /// Texts in blocks. A block is made with all its room, and texts are written into the last one, one
 /// after another; where the next text has no room there, the block is sealed, and another one is begun.
-/// So no text is moved, no byte is written twice, and sealed blocks can be shared. A contract sees the
-/// blocks as lists of bytes, the open one last.
+/// So no text is moved within a block, and sealed blocks can be shared. A sealed block that is given back
+/// has no bytes then, and keeps its number. A contract sees the blocks as lists of bytes, the open one
+/// last.
 #[derive(Debug, Drop)]
 pub struct Texts {
     sealed: SealedBlocks,
+    /// How many sealed blocks have bytes.
+    filled: usize,
     last: Block,
 }
 
@@ -69,6 +73,7 @@ impl Texts {
     {
         Ok(Texts {
             sealed: SealedBlocks::new(alloc)?,
+            filled: 0,
             last: Block::with_room(alloc, FIRST_ROOM)?,
         })
     }
@@ -76,6 +81,32 @@ impl Texts {
     /// Where its memory comes from.
     pub fn allocator(&self) -> Global {
         self.last.allocator()
+    }
+
+    /// How many blocks there are, the open one among them.
+    pub fn block_count(&self) -> usize
+        ensures value { result ≡ length self.now }
+        ensures some { 0 < result }
+    {
+        self.sealed.len() + 1
+    }
+
+    /// How many bytes all blocks have. Linear in the blocks.
+    pub fn size(&self) -> usize {
+        self.sealed.size().saturating_add(self.last.len())
+    }
+
+    /// How many bytes the block of a number has, and none where there is no such block.
+    pub fn block_size(&self, block: usize) -> usize
+        ensures { result ≡ length (block_at self.now block) }
+    {
+        if block == self.sealed.len() {
+            return self.last.len();
+        }
+        match self.sealed.get(block) {
+            Some(block) => block.len(),
+            None => 0,
+        }
     }
 
     /// The text at a place.
@@ -101,6 +132,7 @@ impl Texts {
     {
         Ok(Texts {
             sealed: self.sealed.share()?,
+            filled: self.filled,
             last: Block::new(self.allocator()),
         })
     }
@@ -121,9 +153,9 @@ impl Texts {
     }
 
     /// Whether memory would be there for a quarter of all texts. What new texts do not take is left for those
-    /// who read: else these might be refused for good, since texts stay.
+    /// who read: else these might be refused until texts are given back.
     fn has_reserve(&self) -> bool {
-        let bytes = (self.sealed.len() + 1).saturating_mul(RESERVE);
+        let bytes = self.filled.saturating_add(1).saturating_mul(RESERVE);
         let spare: Result<Vec<u8>, AllocError> = Vec::with_capacity(self.allocator(), bytes);
         spare.is_ok()
     }
@@ -133,6 +165,7 @@ impl Texts {
         requires { length text.now < 2 ^ 16 }
         ensures kept { KeepsBytes self.old self.new }
         ensures ok { IfOk result (λ p. HoldsText self.new p text.now) }
+        ensures last { IfOk result (λ p. block_of p ≡ length self.new - 1) }
         ensures err { OnErr result (self.new ≡ self.old) }
     {
         if self.is_full() || !self.has_reserve() {
@@ -142,7 +175,9 @@ impl Texts {
         let room = room_of(number).max(text.len());
         let mut block = Block::with_room(self.allocator(), room)?;
         let place = write(&mut block, number, text)?;
+        let more = usize::from(self.last.len() > 0);
         self.sealed.seal(&mut self.last, block)?;
+        self.filled = self.filled.saturating_add(more);
         Ok(place)
     }
 
@@ -152,6 +187,7 @@ impl Texts {
         requires { length text.now < 2 ^ 16 }
         ensures kept { KeepsBytes self.old self.new }
         ensures ok { IfOk result (λ p. HoldsText self.new p text.now) }
+        ensures last { IfOk result (λ p. block_of p ≡ length self.new - 1) }
         ensures err { OnErr result (self.new ≡ self.old) }
     {
         if !self.has_room(text.len()) {
@@ -159,5 +195,30 @@ impl Texts {
         }
         let number = self.sealed.len();
         write(&mut self.last, number, text)
+    }
+
+    /// Writes the text at a place once more, after the others, and says its place there. Where memory is
+    /// wanted, nothing is written.
+    #[tactic(auto, using(crate::proofs::ReleaseLemmas::text_short))]
+    pub fn push_again(&mut self, place: Place) -> Result<Place, AllocError>
+        requires { LiesInBlock self.old place }
+        ensures kept { KeepsBytes self.old self.new }
+        ensures ok { IfOk result (λ p. HoldsText self.new p (text_in self.old place)) }
+        ensures last { IfOk result (λ p. block_of p ≡ length self.new - 1) }
+        ensures err { OnErr result (self.new ≡ self.old) }
+    {
+        let text = Vec::from_slice(self.allocator(), self.get(place))?;
+        self.push(text.as_slice())
+    }
+
+    /// Gives back sealed blocks, those whose numbers are marked. Who shares them keeps them. Where memory
+    /// is wanted, some of them stay.
+    pub fn release(&mut self, gone: &[bool]) -> Result<(), AllocError>
+        ensures kept { KeepsOthers gone.now self.old self.new }
+        ensures ok { OnOk result (HasNone gone.now self.new) }
+    {
+        let released = self.sealed.release(gone);
+        self.filled = self.sealed.filled();
+        released
     }
 }

@@ -30,3 +30,6 @@ pub mod ReclaimLemmas
 pub mod StepLemmas
 pub mod JoinLemmas
 pub mod RunLemmas
+pub mod SweptLemmas
+pub mod PlaceMarkLemmas
+pub mod MarkedLemmas

@@ -12,6 +12,7 @@ mod posts;
 mod reads;
 mod storage;
 mod stores;
+mod sweeps;
 mod uploads;
 mod verdicts;
 mod writes;

@@ -13,6 +13,7 @@ ghost use Rattle.gs_tree_store.specs.Uses.{UsesNodes};
 use crate::actions;
 use crate::books::{Books, Seat};
 use crate::storage::Storage;
+use crate::sweeps::{self, Swept};
 use gs_dict::Dict;
 use gs_event::{Action, Answer, Event, Limits};
 use gs_model::Refusal;
@@ -32,6 +33,8 @@ pub struct TreeStore {
     alloc: Global,
     books: Books,
     seats: Vec<Seat>,
+    /// No clause speaks of it, as nothing rests on when terms are swept.
+    swept: Swept,
 }
 
 impl Model for TreeStore {
@@ -90,6 +93,7 @@ impl TreeStore {
             alloc,
             books,
             seats: idle,
+            swept: Swept::nothing(),
         })
     }
 
@@ -122,8 +126,24 @@ impl TreeStore {
         self.books.records.triples() as u64
     }
 
+    /// Takes the terms from the dictionary that nothing needs any more, where that is due after so many nodes and
+    /// records were freed. It shows in nothing that is asked of the store.
+    #[tactic(auto, using(crate::proofs::SweptLemmas::same_shown, crate::proofs::SweptLemmas::still_kept))]
+    fn settle_terms(&mut self, freed: u64, are_all: bool)
+        ensures { self.new ≡ self.old }
+    {
+        sweeps::settle(
+            &mut self.swept,
+            &mut self.books,
+            &self.seats,
+            self.alloc,
+            freed,
+            are_all,
+        );
+    }
+
     /// Frees nodes that no version needs, and then records.
-    fn reclaim(&mut self, count: u64) -> Answer
+    fn free(&mut self, count: u64) -> Answer
         ensures steps { Steps self.old (Event.Reclaim count) result self.new }
     {
         // The number of the last commit says that records are listed in order: before some are freed, and
@@ -134,6 +154,17 @@ impl TreeStore {
         let records = self.books.records.reclaim(&self.books.versions, left);
         let _after = self.books.records.latest();
         Answer::Reclaimed(nodes.freed + records.freed, nodes.left || records.left)
+    }
+
+    /// The same, and then sweeps terms where that is due.
+    fn reclaim(&mut self, count: u64) -> Answer
+        ensures steps { Steps self.old (Event.Reclaim count) result self.new }
+    {
+        let answer = self.free(count);
+        if let Answer::Reclaimed(freed, _) = answer {
+            self.settle_terms(freed, freed < count);
+        }
+        answer
     }
 
     fn act(&mut self, number: u16, action: &Action) -> Answer

@@ -26,6 +26,5 @@ push-requires-clause-object c =
 pub returns-clause-ok : goal.returns-clause-ok
 returns-clause-ok c =
     on_ok_weaker c.push.result
-    (line_gathered _ _ _ _ _ _ _ c.self.invariant c.self.view_is (number_within _ _ _ _ c.self.view_is c.requires.subject)
-    (number_within _ _ _ _ c.self.view_is c.requires.predicate) (number_within _ _ _ _ c.self.view_is c.requires.object))
+    (line_gathered _ _ _ _ _ _ _ c.self.invariant c.self.view_is c.requires.subject c.requires.predicate c.requires.object)
     (rw (← c.place_of-subject.ensures, ← c.place_of-predicate.ensures, ← c.place_of-object.ensures) c.push.ensures.ok)

@@ -5,7 +5,7 @@ use Rattle.gs_dict.proofs.dict.Dict.find.Goals as goal
 pub returns-in_err-number : goal.returns-in_err-number
 returns-in_err-number c =
     rw (c.from_residual.ensures, ← c.self.view_is)
-    (new_term _ _ _ _ _ _ c.self.invariant (meets_as _ _ _ _ _ _ c.args.term.now None c.in_err-number.ensures c.deref.ensures.value c.as_bytes-text.ensures.text c.hash_of-hash.ensures))
+    (new_term _ _ _ _ _ c.self.invariant _ (meets_as _ _ _ _ _ _ c.args.term.now None c.in_err-number.ensures c.deref.ensures.value c.as_bytes-text.ensures.text c.hash_of-hash.ensures))
 
 pub returns : goal.returns
 returns c =

@@ -1,10 +1,12 @@
-use Rattle.std.proofs.Common.{◌≡◌, ◌∙◌, ap, is_some, nat_lt, length, arith}
+use Rattle.std.proofs.Common.{List, ◌∙◌, ap, is_some}
+use Rattle.gs_dict.specs.declared.chains.Entry.{Entry}
 use Rattle.gs_dict.specs.Numbering.{Numbered, term_given}
+use Rattle.gs_dict.specs.Kept.{has_bytes}
 use Rattle.gs_dict.proofs.TermLemmas.{has_entry}
 use Rattle.gs_dict.proofs.dict.Dict.has.Goals as goal
 
 pub returns : goal.returns
 returns c =
-    let count : c.len.result ≡ length c.self.inside.entries.items = omega arith in
-    ap (nat_lt c.args.id.number) count ∙ has_entry c.self.inside.texts c.self.inside.entries.items c.args.id.number
+    c.has_text.ensures ∙ ap (λ (es : List Entry). has_bytes es c.args.id.number) c.deref.ensures.value
+    ∙ has_entry c.self.inside.texts c.self.inside.entries.items c.args.id.number c.self.invariant.table.placed
     ∙ ap (λ (d : Numbered). is_some (term_given d.terms c.args.id.number)) c.self.view_is

@@ -2,7 +2,8 @@ use Rattle.std.proofs.Common.{◌≡◌, ℕ, ◌∙◌, ap, arith, []}
 use Rattle.gs_dict.specs.Numbering.{none_numbered}
 use Rattle.gs_dict.specs.Chains.{AreEnough}
 use Rattle.gs_dict.specs.Kept.{terms_of}
-use Rattle.gs_dict.proofs.TermLemmas.{dict_empty, terms_none}
+use Rattle.gs_dict.proofs.TermLemmas.{terms_none}
+use Rattle.gs_dict.proofs.DictLemmas.{dict_empty}
 use Rattle.gs_dict.proofs.dict.Dict.new.Goals as goal
 
 -- the first buckets are enough

@@ -10,8 +10,8 @@ text_at-requires-clause-given c =
 pub returns-clause-value : goal.returns-clause-value
 returns-clause-value c =
     rw (← c.self.view_is, rw c.deref.ensures.value at c.text_at.ensures)
-    (given_text _ _ _ _ _ c.args.id.number c.self.invariant
-    (has_inside _ _ _ (subst (λ (d : Numbered). HasTerm d.terms c.args.id.number) (sym c.self.view_is) c.requires)))
+    (given_text _ _ _ _ _ c.self.invariant c.args.id.number
+    (subst (λ (d : Numbered). HasTerm d.terms c.args.id.number) (sym c.self.view_is) c.requires))
 
 pub returns-clause-valid : goal.returns-clause-valid
-returns-clause-valid c = λ t number. number_valid _ _ _ _ _ c.args.id.number t c.self.invariant (subst (λ (d : Numbered). IsNumberOf d.terms c.args.id.number t) (sym c.self.view_is) number)
+returns-clause-valid c = λ t number. number_valid _ _ _ _ _ c.self.invariant c.args.id.number t (subst (λ (d : Numbered). IsNumberOf d.terms c.args.id.number t) (sym c.self.view_is) number)

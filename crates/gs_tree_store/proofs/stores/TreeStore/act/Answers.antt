@@ -22,7 +22,7 @@ act-answer-requires-clause-opened c =
     opened_here c.self.inside c.args.number c.index_mut-held.result.now c.self.invariant within c.index_mut-held.ensures.value
 
 abbrev after : goal.After-in_use-after → Inside
-after c = record { alloc = c.self.inside.alloc; books = c.act-answer.new.books; seats = with_item c.self.inside.seats c.args.number c.act-answer.new.seat }
+after c = record { alloc = c.self.inside.alloc; books = c.act-answer.new.books; seats = with_item c.self.inside.seats c.args.number c.act-answer.new.seat; swept = c.self.inside.swept }
 
 is_kept : (c : goal.After-in_use-after) → IsKept (after c)
 is_kept c =

@@ -1,7 +1,7 @@
 use Rattle.std.proofs.Common.{◌≡◌, ◌||◌, sym, ap, ◌∙◌}
 use Rattle.gs_tree_store.proofs.ReclaimLemmas.{kept_reclaimed, steps_reclaimed}
-use Rattle.gs_tree_store.proofs.stores.TreeStore.reclaim.Goals as goal
-use Rattle.gs_tree_store.proofs.stores.TreeStore.reclaim.Goals.{then-nodes, else-nodes}
+use Rattle.gs_tree_store.proofs.stores.TreeStore.free.Goals as goal
+use Rattle.gs_tree_store.proofs.stores.TreeStore.free.Goals.{then-nodes, else-nodes}
 
 pub invariant_of-self : goal.invariant_of-self
 invariant_of-self c =
