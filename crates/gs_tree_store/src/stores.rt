@@ -72,6 +72,7 @@ impl TreeStore {
         ensures births { IfOk result (λ store. store.births ≡ no_births seats) }
         ensures refused { IfErr result (λ refusal. refusal ≡ Refusal.NoMemory) }
     {
+        let swept = Swept::nothing();
         let idle = idle_seats(alloc, seats)?;
         let base = String::from_str(alloc, base)?;
         let dict = Dict::new(alloc, storage.seed, storage.last_term)?;
@@ -93,7 +94,7 @@ impl TreeStore {
             alloc,
             books,
             seats: idle,
-            swept: Swept::nothing(),
+            swept,
         })
     }
 

@@ -6,7 +6,7 @@ use Rattle.gs_tree_store.proofs.FreshLemmas.{IsFresh, fresh_kept, fresh_waste, f
 use Rattle.gs_tree_store.proofs.stores.TreeStore.starting_at.Goals as goal
 
 abbrev made : goal.In_ok-records → Inside
-made c = record { alloc = c.args.alloc; books = record { base = c.in_ok-base.base; limits = c.args.limits; request = c.args.request; dict = c.in_ok-dict.dict; pool = c.in_ok-pool.pool; versions = c.in_ok-versions.versions; records = c.in_ok-records.records; default_write = c.args.commit; last_delete = c.args.commit }; seats = c.in_ok-idle.idle; swept = c.nothing.result }
+made c = record { alloc = c.args.alloc; books = record { base = c.in_ok-base.base; limits = c.args.limits; request = c.args.request; dict = c.in_ok-dict.dict; pool = c.in_ok-pool.pool; versions = c.in_ok-versions.versions; records = c.in_ok-records.records; default_write = c.args.commit; last_delete = c.args.commit }; seats = c.in_ok-idle.idle; swept = c.nothing-swept.result }
 
 is_fresh : (c : goal.In_ok-records) → IsFresh (made c) c.args.seats c.args.commit
 is_fresh c = record {
